@@ -1,4 +1,4 @@
--- When an answer's conditions hold, and which terms they may speak of.
+-- When an answer's conditions hold, and which terms they may have.
 use Rattle.std.specs.Prelude.{◌≡◌, ◌⊎◌, Bool, false, ◌||◌, ℤ, pos, Option, None, Some, List, [], ◌∷◌}
 use Rattle.cs_ranges.specs.Interval.{IsInside}
 use Rattle.cs_ranges.specs.RangeSet.{contains}
@@ -11,7 +11,7 @@ use Rattle.cs_checker.specs.declared.subject.Subject.TheVariants.{Move, Divisor,
 use Rattle.cs_checker.specs.declared.answer.Cond.{Cond}
 use Rattle.cs_checker.specs.Faults.{is_faulty_for, HasValues}
 
--- the term that is a number
+-- a number as a term
 abbrev pub constant : ℤ → Lin
 constant number = record { sym = None; slope = pos 0; at = pos 0; value = number }
 
@@ -19,7 +19,7 @@ constant number = record { sym = None; slope = pos 0; at = pos 0; value = number
 abbrev pub with_zero : Lin → Lin2
 with_zero term = record { first = term; second = constant (pos 0) }
 
--- the term that an operation brings
+-- the term of an operation
 abbrev pub own_term : Subject → Option Lin2
 own_term (Move null amount) = Some (with_zero amount)
 own_term (Divisor term) = Some (with_zero term)
@@ -54,7 +54,7 @@ some_holds [] numbers = false
 some_holds (None ∷ conds) numbers = some_holds conds numbers
 some_holds (Some cond ∷ conds) numbers = holds cond numbers || some_holds conds numbers
 
--- wherever the operation's terms have values, one of the conditions holds exactly if the operation ends in a fault of this kind
+-- whenever the operation's terms have values, one of the conditions holds exactly if the operation ends in a fault of this kind
 abbrev pub YieldsFaults : Kind → Subject → List (Option Cond) → Type 0
 YieldsFaults kind subject conds =
     (numbers : Valuation) → HasValues subject numbers → some_holds conds numbers ≡ is_faulty_for kind subject numbers

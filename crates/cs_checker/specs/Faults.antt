@@ -12,20 +12,20 @@ use Rattle.cs_ranges.specs.Interval.{IsInside}
 use Rattle.cs_checker.specs.declared.subject.Subject.{Subject}
 use Rattle.cs_checker.specs.declared.subject.Subject.TheVariants.{Through, Move, Divisor, Cell, Rest, Slot, Release, Reached, Shift, Pair, Written}
 
--- whether an access ends in this kind of fault, by how its object stands
+-- whether an access ends in this kind of fault, depending on the standing of its object
 abbrev pub is_fault_at : Kind → Standing → Bool
 is_fault_at kind.Freed standing.Freed = true
 is_fault_at kind.DeadLocal standing.Ended = true
 is_fault_at other standing = false
 
--- whether `free` ends in this kind of fault, by what is freed and by the offset in it
+-- whether `free` ends in this kind of fault, depending on what is freed and on the offset in it
 abbrev pub is_fault_of_free : Kind → Freeable → ℤ → Bool
 is_fault_of_free kind.DoubleFree freeable.Freed offset = true
 is_fault_of_free kind.BadFree freeable.Fixed offset = true
 is_fault_of_free kind.BadFree freeable.Live offset = not (int_eq offset (pos 0))
 is_fault_of_free other block offset = false
 
--- whether an operation ends in this kind of fault when symbols have these numbers
+-- whether an operation ends in this kind of fault if the symbols have these numbers
 abbrev pub is_faulty_for : Kind → Subject → Valuation → Bool
 is_faulty_for kind.Null (Through null) numbers = null
 is_faulty_for kind.Null (Move null amount) numbers = null && not (int_eq (value_of numbers amount) (pos 0))

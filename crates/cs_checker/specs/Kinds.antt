@@ -1,4 +1,4 @@
--- Which kinds of faults some checkers find.
+-- The kinds of faults that a list of checkers finds.
 use Rattle.std.specs.Prelude.{◌≡◌, List}
 use Rattle.std.specs.List.{Any}
 use Rattle.cs_model.specs.declared.kind.Kind.{Kind}

@@ -1,4 +1,4 @@
-//! What checkers answer.
+//! The answers of checkers.
 ghost use Rattle.std.specs.Prelude.{◌≡◌, Some, true, false};
 ghost use Rattle.cs_ranges.specs.RangeSet.{contains};
 ghost use Rattle.cs_terms.specs.Term.{Valuation, value_of, value_of_sum};
@@ -8,14 +8,14 @@ ghost use Rattle.cs_checker.specs.Answers.{constant, with_zero, own_term, some_h
 use cs_ranges::Interval;
 use cs_terms::{Lin, Lin2};
 
-/// A condition. It holds where the term's value lies in one of the two intervals.
+/// A condition. It holds if the term's value is in one of the two intervals.
 #[derive(Clone, Copy, PartialEq, Eq, Debug)]
 pub struct Cond {
     pub term: Lin2,
     pub bad: [Interval; 2],
 }
 
-/// The conditions of a fault. It occurs where one of them holds.
+/// The conditions of a fault, which occurs if one of them holds.
 #[derive(Clone, Copy, PartialEq, Eq, Debug)]
 pub struct Answer {
     pub conds: [Option<Cond>; 2],
@@ -25,7 +25,7 @@ pub struct Answer {
 pub const NO_NUMBER: Interval = Interval { low: 1, high: 0 };
 
 impl Answer {
-    /// No condition: nothing that is asked about ends in the fault.
+    /// Returns no condition: the fault never occurs.
     #[tactic(auto, unfolding(crate::specs::Answers::some_holds, crate::specs::Answers::HasTermsFor))]
     pub fn never() -> Answer
         ensures faults { (numbers : Valuation) → some_holds result.conds numbers ≡ false }
@@ -46,7 +46,8 @@ impl Answer {
         first.is_none() && second.is_none()
     }
 
-    /// The fault is certain, or it can't be. It isn't inlined, since an answer is large: a checker that isn't concerned writes no condition.
+    /// Returns that the fault always or never occurs. Not inlined, since an answer is large: for an operation
+    /// of another kind, a checker writes no condition.
     #[inline(never)]
     #[tactic(auto, unfolding(cs_ranges::specs::RangeSet::contains, cs_ranges::specs::Interval::in_interval))]
     pub fn of_test(fault: bool) -> Answer
@@ -64,7 +65,7 @@ impl Answer {
         Answer::of_sum(term, [one, NO_NUMBER])
     }
 
-    /// The fault occurs where the term has a value in one of the intervals.
+    /// Returns that the fault occurs if the term has a value in one of the intervals.
     pub fn of_term(term: Lin, bad: [Interval; 2]) -> Answer
         ensures faults { (numbers : Valuation)
             → some_holds result.conds numbers ≡ contains bad (value_of numbers term) }
@@ -78,7 +79,7 @@ impl Answer {
         Answer::of_sum(term, bad)
     }
 
-    /// The fault occurs where the sum has a value in one of the intervals.
+    /// Returns that the fault occurs if the sum has a value in one of the intervals.
     #[inline(never)]
     #[tactic(auto, unfolding(crate::specs::Answers::some_holds, crate::specs::Answers::HasTermsFor))]
     pub fn of_sum(term: Lin2, bad: [Interval; 2]) -> Answer

@@ -18,23 +18,23 @@ pub trait Checker: Drop {
 
     ghost count_of: { Self → ℕ };
 
-    /// The kind of its faults.
+    /// Returns the kind of its faults.
     fn kind(&self) -> Kind
         ensures { result ≡ kind_of self.now };
 
-    /// The conditions under which the operation ends in a fault of this kind.
+    /// Returns the conditions under which the operation ends in a fault of this kind.
     fn examine(&mut self, subject: &Subject) -> Answer
         ensures faults { YieldsFaults (kind_of self.old) subject.now result.conds }
         ensures terms { HasTermsFor subject.now result.conds }
         ensures kind { kind_of self.new ≡ kind_of self.old }
         ensures count { CountsOne (count_of self.old) (count_of self.new) };
 
-    /// How often `examine` was called, as far as a `u64` counts.
+    /// Returns how often `examine` was called, up to the greatest `u64`.
     fn examined(&self) -> u64
         ensures { result ≡ count_of self.now };
 }
 
-/// Puts a checker after the others.
+/// Appends a checker to the list.
 pub fn add(
     checkers: &mut Vec<Box<dyn Checker>>,
     checker: Box<dyn Checker>,
@@ -47,7 +47,7 @@ pub fn add(
     Ok(())
 }
 
-/// Asks each checker once, in order.
+/// Queries each checker once, in order, and returns their answers.
 pub fn ask_each(
     alloc: Global,
     checkers: &mut Vec<Box<dyn Checker>>,

@@ -1,5 +1,5 @@
-//! Checkers: who says under which conditions an operation is a fault of a kind. The engine holds them boxed, so that a new kind of
-//! fault is one more box.
+//! Checkers: each determines under which conditions an operation is a fault of its kind. The engine holds
+//! them boxed, so that a new kind of fault needs only one more box.
 #![tactic(auto)]
 
 mod answer;

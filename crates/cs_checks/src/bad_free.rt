@@ -1,4 +1,4 @@
-//! Frees of what no allocation gave (C11 7.22.3.3).
+//! Frees of pointers that no allocation returned (C11 7.22.3.3).
 ghost use Rattle.std.specs.Prelude.{◌≡◌};
 ghost use Rattle.cs_model.specs.declared.kind.Kind.TheVariants.{BadFree};
 ghost use Rattle.cs_checker.specs.Answers.{YieldsFaults, HasTermsFor};

@@ -1,4 +1,4 @@
-//! Stores to what is constant (C11 6.4.5, 6.7.3).
+//! Stores to constant objects (C11 6.4.5, 6.7.3).
 ghost use Rattle.std.specs.Prelude.{◌≡◌};
 
 use cs_checker::{Answer, Checker, Subject};

@@ -1,23 +1,23 @@
-//! The intervals that conditions ask for.
+//! The intervals that conditions use.
 ghost use Rattle.std.specs.Prelude.{◌≡◌, ◌^◌, pos};
 
 use cs_ranges::{GREATEST, Interval, LEAST};
 
 pub const ZERO: Interval = Interval { low: 0, high: 0 };
 
-/// The numbers below 0, as far as terms have them.
+/// The numbers below 0 that terms can have.
 pub const NEGATIVE: Interval = Interval {
     low: LEAST,
     high: -1,
 };
 
-/// The numbers above 0.
+/// The numbers above 0 that terms can have.
 pub const POSITIVE: Interval = Interval {
     low: 1,
     high: GREATEST,
 };
 
-/// The numbers from this one on.
+/// Returns the numbers from this one up.
 pub fn at_least(low: u32) -> Interval
     ensures low { result.low ≡ pos low }
     ensures high { result.high ≡ pos (2 ^ 126) }

@@ -1,4 +1,4 @@
-//! Accesses through null, and null moved (C11 6.5.3.2, 6.5.6).
+//! Accesses through null, and arithmetic on null (C11 6.5.3.2, 6.5.6).
 ghost use Rattle.std.specs.Prelude.{◌≡◌};
 ghost use Rattle.cs_model.specs.declared.kind.Kind.TheVariants.{Null};
 ghost use Rattle.cs_checker.specs.Answers.{YieldsFaults, HasTermsFor};

@@ -1,4 +1,4 @@
-//! Shifts by counts that no operand has bits for (C11 6.5.7).
+//! Shifts by counts outside the operand's width (C11 6.5.7).
 ghost use Rattle.std.specs.Prelude.{◌≡◌};
 
 use crate::intervals::{NEGATIVE, at_least};

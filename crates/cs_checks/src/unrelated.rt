@@ -1,10 +1,10 @@
-//! Pointers into different objects that are ordered or subtracted (C11 6.5.6, 6.5.8).
+//! Order comparisons and differences of pointers to different objects (C11 6.5.6, 6.5.8).
 ghost use Rattle.std.specs.Prelude.{◌≡◌};
 
 use cs_checker::{Answer, Checker, Subject};
 use cs_model::Kind;
 
-/// Orders and differences of pointers to different objects.
+/// Order comparisons and differences of pointers to different objects.
 #[derive(Drop)]
 pub struct UnrelatedChecker {
     examined: u64,

@@ -1,4 +1,4 @@
-//! Uses of what was never written (C11 6.3.2.1, annex J.2).
+//! Uses of values that were never written (C11 6.3.2.1, annex J.2).
 ghost use Rattle.std.specs.Prelude.{◌≡◌};
 
 use cs_checker::{Answer, Checker, Subject};

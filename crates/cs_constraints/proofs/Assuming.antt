@@ -1,4 +1,4 @@
--- What an assumption does to the valuations that fit: for the contract of `assume`.
+-- The effect of an assumption on the valuations that fit: for the contract of `assume`.
 use Rattle.std.proofs.Common.{◌≡◌, ◌≢◌, ◌⊎◌, ℕ, zero, suc, Bool, true, false, ◌&&◌, ℤ, pos, List, Option, Some, None, refl, sym, ap}
 use Rattle.std.proofs.Common.{subst, ◌∙◌, inl, inr, arith}
 use Rattle.std.specs.Prelude.{MatchOption, is_some}

@@ -1,5 +1,4 @@
--- The words of a set of numbers: both ends of each interval, how many intervals there are, and 1 at last, which no word of an undeclared symbol
--- is.
+-- The words of a set of numbers: both ends of each interval, the number of intervals, and 1, which isn't a word of an undeclared symbol.
 use Rattle.std.specs.Prelude.{ℕ, List, []}
 use Rattle.cs_word_lists.specs.Written.{with_word, with_integer, with_list}
 use Rattle.cs_ranges.specs.declared.range_set.Interval.{Interval}
@@ -7,7 +6,7 @@ use Rattle.cs_ranges.specs.declared.range_set.Interval.{Interval}
 abbrev pub with_interval : List ℕ → Interval → List ℕ
 with_interval words interval = with_integer (with_integer words interval.low) interval.high
 
--- words, and after them those of a set
+-- words, followed by those of a set
 abbrev pub with_numbers : List ℕ → List Interval → List ℕ
 with_numbers words set = with_word (with_list with_interval words set) 1
 

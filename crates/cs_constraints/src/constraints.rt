@@ -1,5 +1,6 @@
-//! `Constraints`, in the sense of Clang's `ConstraintManager`: `assume` adds a condition to a path or finds that the path
-//! is infeasible. Each condition bounds one symbol, so that the constraints are a range for each symbol.
+//! `Constraints`, in the sense of Clang's `ConstraintManager`: `assume` adds a condition to a path or finds
+//! that the path is infeasible. Each condition bounds one symbol, so that the constraints are a set of
+//! numbers for each symbol.
 ghost use Rattle.std.specs.Prelude.{◌≡◌, ◌≢◌, ◌≤◌, ◌^◌, true, false, ◌&&◌, unsigned_abs, ℕ, ℤ, Some, None, IsTrue, IfOk, IfSome, OnOk, OnErr, MatchOption, option_map, List, if◌then◌else◌};
 ghost use Rattle.std.specs.Option.{option_copied};
 ghost use Rattle.std.specs.FinMap as map;
@@ -23,11 +24,11 @@ use std::marker::Model;
 
 /// The symbols that are declared, each with a set of numbers that isn't empty. A contract sees them as a finite map.
 ///
-/// A valuation fits where it gives each declared symbol a number of its set, so some valuation always fits.
+/// A valuation fits if each declared symbol has a number of its set under it, so some valuation always fits.
 #[derive(Drop)]
 pub struct Constraints {
     alloc: Global,
-    // Under a symbol's number and 0. States share the map, and a condition changes one entry of it.
+    // Keyed by `(symbol, 0)`. States share the map, and a condition changes one entry of it.
     sets: PMap<Numbers>,
 }
 
@@ -50,7 +51,7 @@ impl Model for Constraints {
 }
 
 impl Constraints {
-    /// No symbol is declared.
+    /// Returns constraints without declared symbols.
     pub fn new(alloc: Global) -> Constraints
         ensures { (sym : ℕ) → set_of result sym ≡ None }
     {
@@ -60,7 +61,7 @@ impl Constraints {
         }
     }
 
-    /// Gives the symbol the numbers of the set, in place of those that it had.
+    /// Sets the numbers of the symbol, in place of those that it had.
     pub fn declare(&mut self, sym: Sym, set: RangeSet) -> Result<(), AllocError>
         requires { IsInhabited set }
         ensures here { OnOk result (set_of self.new sym.0 ≡ Some set) }
@@ -72,7 +73,7 @@ impl Constraints {
         self.sets.insert((sym.0, 0), numbers)
     }
 
-    /// Gives each of the symbols the numbers of the set, in place of those that it had.
+    /// Sets the numbers of each of the symbols, in place of those that it had.
     pub fn declare_all(&mut self, syms: &[Sym], set: &RangeSet) -> Result<(), AllocError>
         requires { IsInhabited set.now }
         ensures sets { OnOk result ((sym : ℕ) → set_of self.new sym
@@ -84,7 +85,7 @@ impl Constraints {
         Ok(())
     }
 
-    /// The numbers that the symbol may stand for.
+    /// Returns the numbers that the symbol may have, if it is declared.
     pub fn range_of(&self, sym: Sym) -> Option<&RangeSet>
         ensures set { option_copied result ≡ set_of self.now sym.0 }
         ensures inhabited { IfSome result (λ set. IsInhabited set.now) }
@@ -92,14 +93,14 @@ impl Constraints {
         Some(self.sets.get((sym.0, 0))?.set())
     }
 
-    /// The words of these numbers.
+    /// Returns the words of these numbers.
     pub fn words_of(&self, sym: Sym) -> Option<&Words>
         ensures { option_copied result ≡ option_map set_words (set_of self.now sym.0) }
     {
         Some(self.sets.get((sym.0, 0))?.words())
     }
 
-    /// The least absolute number that the symbol may stand for, the positive one of two.
+    /// Returns the number of least absolute value that the symbol may have, the positive one of two.
     pub fn solution(&self, sym: Sym) -> Option<i128>
         ensures { MatchOption result (set_of self.now sym.0 ≡ None)
             (λ number. (set : List Interval) × (set_of self.now sym.0 ≡ Some set)
@@ -108,7 +109,7 @@ impl Constraints {
         self.range_of(sym)?.least_abs()
     }
 
-    /// The same constraints once more.
+    /// Returns a copy.
     pub fn copy(&self) -> Result<Constraints, AllocError>
         ensures same { IfOk result (λ copy. copy ≡ self.now) }
         ensures inhabited { AreInhabited self.now }
@@ -119,7 +120,7 @@ impl Constraints {
         })
     }
 
-    /// The term, as a constant where its symbol can stand for one number only.
+    /// Returns the term, as a constant if its symbol can only have one number.
     pub fn collapse(&self, term: Lin) -> Lin
         requires term { IsTerm term }
         requires values { HasValuesInside self.now term }
@@ -142,8 +143,8 @@ impl Constraints {
         }
     }
 
-    /// The same function in the form that arithmetic on terms asks for: a constant where the symbol can stand for one
-    /// number only, else seen from the least number that it can stand for. It takes no memory.
+    /// Returns the same function in the form that arithmetic on terms requires: a constant if the symbol can
+    /// only have one number, else given by its value at the symbol's least number. Allocates no memory.
     pub fn prepared(&self, term: Lin) -> Lin
         requires term { IsTerm term }
         requires values { HasValuesInside self.now term }
@@ -169,7 +170,7 @@ impl Constraints {
         }
     }
 
-    // The numbers of a symbol that is there and declared.
+    // Returns the numbers of a symbol, if there is one and it is declared.
     fn numbers_of(&self, sym: Option<Sym>) -> Option<&RangeSet>
         ensures { MatchOption result (HasNoSet self.now sym) (λ set.
             IsSetOf self.now sym set.now × IsInhabited set.now) }
@@ -177,7 +178,7 @@ impl Constraints {
         self.range_of(sym?)
     }
 
-    // The number of a symbol that can stand for one number only.
+    // Returns the number of a symbol that can only have one.
     fn only_number(&self, sym: Option<Sym>) -> Option<i128>
         ensures { MatchOption result (¬ ((number : ℤ) × HasOneNumber self.now sym number))
             (HasOneNumber self.now sym) }
@@ -185,7 +186,8 @@ impl Constraints {
         self.range_of(sym?)?.is_single()
     }
 
-    /// The constraints under the further condition that the term is in the set, none where no valuation meets it.
+    /// Returns the constraints with the condition that the term is in the set, or none if no valuation that
+    /// fits satisfies it.
     pub fn assume(&self, term: Lin, set: &RangeSet) -> Result<Option<Constraints>, AllocError>
         requires term { IsTerm term }
         requires declared { IsDeclared self.now term.sym }
@@ -200,7 +202,7 @@ impl Constraints {
         self.narrowed(sym, kept)
     }
 
-    // The constraints as they are if a condition without symbols holds.
+    // Returns a copy if a condition without symbols holds, else none.
     fn copy_if(&self, holds: bool) -> Result<Option<Constraints>, AllocError>
         ensures { IfOk result (λ answer.
             MatchOption answer (holds ≡ false)
@@ -213,7 +215,7 @@ impl Constraints {
         }
     }
 
-    // The numbers of the symbol at which the term is in the set.
+    // Returns the numbers of the symbol at which the term is in the set.
     fn numbers_with(&self, sym: Sym, term: Lin, set: &RangeSet) -> Result<RangeSet, AllocError>
         requires symbol { term.sym ≡ Some sym }
         requires values { HasValuesInside self.now term }
@@ -228,7 +230,7 @@ impl Constraints {
         }
     }
 
-    // The constraints with other numbers for one symbol, none where these are no numbers.
+    // Returns the constraints with another set for one symbol, or none if this set is empty.
     fn narrowed(&self, sym: Sym, set: RangeSet) -> Result<Option<Constraints>, AllocError>
         ensures { IfOk result (λ answer.
             MatchOption answer (IsEmpty set) (λ after.
@@ -243,7 +245,7 @@ impl Constraints {
     }
 }
 
-// The set for each symbol, as entries of the map.
+// Returns the set for each symbol, as entries of the map.
 fn keyed(
     alloc: Global,
     syms: &[Sym],

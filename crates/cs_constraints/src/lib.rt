@@ -1,4 +1,4 @@
-//! What a path assumes of its symbols: for each symbol the numbers that it may stand for.
+//! What a path assumes about its symbols: the numbers that each symbol may have.
 #![tactic(auto)]
 
 mod constraints;

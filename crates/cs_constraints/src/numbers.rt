@@ -1,4 +1,4 @@
-//! The numbers that a symbol may stand for, with their words.
+//! The numbers that a symbol may have, with their words.
 ghost use Rattle.std.specs.Prelude.{◌≡◌, OnOk, IfOk};
 ghost use Rattle.cs_constraints.specs.SetWords.{with_interval, set_words};
 
@@ -8,7 +8,7 @@ use std::alloc::{AllocError, Global};
 use std::marker::Model;
 use std::rc::Rc;
 
-// Memory for the bytes of most sets.
+// Enough bytes for the words of most sets.
 const BYTES: usize = 32;
 
 // A set, and its words.
@@ -18,7 +18,7 @@ struct Written {
     words: Words,
 }
 
-/// A set of numbers that keeps its words. Copies share both, and a contract sees the intervals.
+/// A set of numbers with its words. Copies share both. A contract sees the intervals.
 #[derive(Drop)]
 pub(crate) struct Numbers {
     written: Rc<Written>,
@@ -37,7 +37,7 @@ impl Model for Numbers {
 }
 
 impl Numbers {
-    /// The numbers of a set.
+    /// Makes the numbers of a set.
     pub fn new(alloc: Global, set: RangeSet) -> Result<Numbers, AllocError>
         ensures { IfOk result (λ numbers. numbers ≡ set) }
     {
@@ -47,14 +47,14 @@ impl Numbers {
         })
     }
 
-    /// The set.
+    /// Returns the set.
     pub fn set(&self) -> &RangeSet
         ensures { result.now ≡ self.now }
     {
         &self.written.as_ref().set
     }
 
-    /// The words of the set.
+    /// Returns the words of the set.
     pub fn words(&self) -> &Words
         ensures { result.now ≡ set_words self.now }
     {
@@ -72,7 +72,7 @@ impl Clone for Numbers {
     }
 }
 
-// The words of a set: its intervals, how many they are, and 1.
+// Returns the words of a set: its intervals, their number, and 1.
 fn words_of(alloc: Global, set: &RangeSet) -> Result<Words, AllocError>
     ensures { IfOk result (λ words. words ≡ set_words set.now) }
 {

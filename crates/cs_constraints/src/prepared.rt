@@ -1,4 +1,4 @@
-//! The form of a term that arithmetic on it asks for.
+//! The form of a term that arithmetic on it requires.
 ghost use Rattle.std.specs.Prelude.{◌≡◌, ◌≢◌, None, ℤ, IsTrue};
 ghost use Rattle.cs_ranges.specs.Interval.{IsInside};
 ghost use Rattle.cs_ranges.specs.RangeSet.{contains, IsInhabited};
@@ -8,8 +8,8 @@ ghost use Rattle.cs_constraints.specs.Prepared.{IsPreparedOver, IsSameFunction};
 use cs_ranges::{RangeSet, affine_value};
 use cs_terms::Lin;
 
-/// The term over the numbers of its symbol: a constant where there is one number only, else the same function seen from
-/// the least number.
+/// Returns a term over the numbers of its symbol in this form: a constant if there is only one number, else
+/// the same function, given by its value at the least number.
 pub(crate) fn prepared_over(term: Lin, range: &RangeSet) -> Lin
     requires term { IsTerm term }
     requires symbol { term.sym ≢ None }
@@ -31,7 +31,7 @@ pub(crate) fn prepared_over(term: Lin, range: &RangeSet) -> Lin
     seen_from(term, least)
 }
 
-// The same function by its value at another number.
+// Returns the same function, given by its value at another number.
 fn seen_from(term: Lin, at: i128) -> Lin
     requires term { IsTerm term }
     requires inside { IsInside (value_at term at) }

@@ -1,4 +1,4 @@
--- Operators of two integers: where one isn't followed exactly, some corners give the ground.
+-- Operators of two integers: if one isn't followed exactly, some corners are the ground of its guess.
 use Rattle.std.proofs.Common.{◌≡◌, ◌≢◌, ◌⊎◌, inl, inr, ℕ, Bool, true, false, ◌&&◌, ◌||◌, ℤ, Some, refl, sym, ap}
 use Rattle.std.proofs.Common.{◌∙◌, arith}
 use Rattle.std.specs.Prelude.{◌<ℤ◌}

@@ -1,4 +1,4 @@
--- Comparisons and order tests: where one isn't followed exactly, two corners give the ground.
+-- Comparisons and order tests: if one isn't followed exactly, two corners are the ground of its guess.
 use Rattle.std.proofs.Common.{◌≡◌, Bool, true, false, not, ◌&&◌, ◌||◌, ℤ, pos, ◌+ℤ◌, ◌-ℤ◌, refl, sym}
 use Rattle.std.proofs.Common.{arith}
 use Rattle.std.specs.Prelude.{◌≤ℤ◌, int_le, int_lt}

@@ -1,4 +1,4 @@
--- The corner at which each symbol with two numbers has another number than it had.
+-- The corner at which each symbol with two numbers has another number than before.
 use Rattle.std.proofs.Common.{◌≡◌, ◌≢◌, ◌⊎◌, ℕ, ℤ, List, Option, None, Some, refl, sym, ◌∙◌}
 use Rattle.cs_ranges.specs.declared.range_set.Interval.{Interval}
 use Rattle.cs_terms.specs.declared.symbol.Sym.{Sym}

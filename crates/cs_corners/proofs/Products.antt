@@ -1,4 +1,4 @@
--- The order test of `calloc`: where it isn't followed exactly, two corners give the ground.
+-- The order test of `calloc`: if it isn't followed exactly, two corners are the ground of its guess.
 use Rattle.std.proofs.Common.{◌≡◌, inl, inr, Bool, true, false, ℤ, pos, ◌*ℤ◌, refl, arith}
 use Rattle.std.specs.Prelude.{◌≤ℤ◌, int_le, int_lt}
 use Rattle.std.proofs.lemmas.Int.{ints}

@@ -1,4 +1,4 @@
--- Questions that aren't followed exactly have their ground at corners: for the contract of `corners_have_ground`.
+-- Corners are the ground of the guess for each question that isn't followed exactly: for the contract of `corners_have_ground`.
 use Rattle.std.proofs.Common.{◌≡◌, ◌≢◌, ◌⊎◌, inl, inr, zero, suc, true, false, ℤ, pos, negsuc, Some, refl, sym, ◌∙◌}
 use Rattle.cs_types.specs.declared.data_model.DataModel.{DataModel}
 use Rattle.cs_types.specs.declared.int_type.IntType.{IntType}

@@ -1,4 +1,4 @@
--- Pairs of operands that differ or don't lie on one line.
+-- Pairs of operands that differ or aren't on one line.
 use Rattle.std.proofs.Common.{◌≡◌, ◌≢◌, inl, inr, Bool, true, false, not, ◌&&◌, ◌||◌, ℤ, pos, ◌-ℤ◌, refl}
 use Rattle.std.proofs.Common.{sym, ap, ◌∙◌, arith}
 use Rattle.std.specs.Ordering.{int_eq}

@@ -1,5 +1,5 @@
--- Corners: valuations under which the symbols of a question's operands have the least or the greatest of the numbers that they may stand for, and all other
--- symbols what they had.
+-- Corners: valuations under which the symbols of a question's operands have the least or the greatest of the numbers that they may have,
+-- and all other symbols keep theirs.
 use Rattle.std.specs.Prelude.{◌≡◌, ◌≢◌, ◌⊎◌, ℤ, IsTrue, List, Some}
 use Rattle.cs_ranges.specs.declared.range_set.Interval.{Interval}
 use Rattle.cs_ranges.specs.RangeSet.{IsLeast, IsGreatest}
@@ -16,23 +16,23 @@ use Rattle.cs_eval.specs.declared.question.Question.{Question}
 use Rattle.cs_eval.specs.Followed.{Mentions}
 use Rattle.cs_eval.specs.Questions.{operation_of}
 
--- the symbol is declared, and the number is the least or the greatest that it may stand for
+-- the symbol is declared, and the number is the least or the greatest that it may have
 pub record IsEnd (sets : Sets) (sym : Sym) (number : ℤ) : Type 0 where
   pub set : List Interval
   pub known : set_of sets sym.0 ≡ Some set
   pub at_end : IsLeast set number ⊎ IsGreatest set number
 
--- each of these symbols has one of its ends, and each other symbol the number that it had; so the corner fits where the first valuation does
+-- each of these symbols has one of its ends, and each other symbol keeps its number; so the corner fits if the first valuation does
 pub record IsCornerOf (sets : Sets) (IsMoved : Sym → Type 0) (v w : Valuation) : Type 0 where
   pub ends : (sym : Sym) → IsMoved sym → IsEnd sets sym (w sym.0)
   pub others : (other : Sym) → ¬ IsMoved other → w other.0 ≡ v other.0
   pub fits : Fits v sets → Fits w sets
 
--- the symbols of the question's operands are those that have ends
+-- a corner of the symbols of the question's operands
 abbrev pub IsCorner : Sets → Question → Valuation → Valuation → Type 0
 IsCorner sets asked v w = IsCornerOf sets (Mentions asked) v w
 
--- what is said of each of one or two valuations
+-- each of one or two valuations has the property
 abbrev pub EachIs : (Valuation → Type 0) → Others Valuation → Type 0
 EachIs Is (One first) = Is first
 EachIs Is (Two first second) = Is first × Is second
@@ -41,7 +41,7 @@ EachIs Is (Two first second) = Is first × Is second
 abbrev pub operands_under : Question → Valuation → Pair
 operands_under asked v = operands (operation_of v asked)
 
--- one or two corners give the ground to guess
+-- one or two corners are the ground of the guess
 pub record HasGroundAtCorners (model : DataModel) (sets : Sets) (asked : Question) (v : Valuation) : Type 0 where
   pub others : Others Valuation
   pub corners : EachIs (IsCorner sets asked v) others

@@ -1,4 +1,4 @@
--- What corners are for: they show that an operation can't be followed exactly, and which numbers its result may have.
+-- The purpose of corners: they show that an operation can't be followed exactly, and which numbers its result may have.
 use Rattle.std.specs.Prelude.{◌⊎◌, ℤ, IsTrue}
 use Rattle.cs_types.specs.declared.data_model.DataModel.{DataModel}
 use Rattle.cs_terms.specs.Term.{Valuation}
@@ -10,7 +10,7 @@ use Rattle.cs_eval.specs.Questions.{operation_of}
 use Rattle.cs_corners.specs.Corners.{HasGroundAtCorners, HasOtherLeft, HasOtherRight}
 use Rattle.cs_corners.specs.Operands.{HasOperands, HasDivisor}
 
--- an operation that isn't followed exactly under a valuation has its ground there, at one or two corners
+-- for an operation that isn't followed exactly under a valuation, one or two corners are the ground of its guess there
 abbrev pub CornersHaveGround : Type 0
 CornersHaveGround = (model : DataModel) (sets : Sets) (asked : Question) (v : Valuation) → AreInhabited sets → HasOperands sets v asked
     → ¬ IsFollowed model sets asked v → HasGroundAtCorners model sets asked v
@@ -21,7 +21,7 @@ pub record IsUsable (model : DataModel) (sets : Sets) (asked : Question) (v : Va
   pub left : IsTrue (fits_left (operation_of v asked) number) ⊎ HasOtherLeft sets asked v
   pub right : IsTrue (fits_right (operation_of v asked) number) ⊎ HasOtherRight sets asked v
 
--- so it is with each number that may be guessed
+-- this holds for each number that may be guessed
 abbrev pub GuessesAreUsable : Type 0
 GuessesAreUsable = (model : DataModel) (sets : Sets) (asked : Question) (v : Valuation) (number : ℤ) → AreInhabited sets → HasOperands sets v asked
     → HasDivisor sets v asked → IsGuess model sets asked v number → IsUsable model sets asked v number

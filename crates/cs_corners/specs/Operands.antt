@@ -1,4 +1,4 @@
--- What the operands of a question are to be, so that it has corners.
+-- Conditions on the operands of a question, under which it has corners.
 use Rattle.std.specs.Prelude.{◌≢◌, ◌≤ℤ◌, ◌≡◌, ℤ, pos, IsTrue, List, Some}
 use Rattle.cs_ranges.specs.declared.range_set.Interval.{Interval}
 use Rattle.cs_ranges.specs.RangeSet.{contains}
@@ -12,19 +12,19 @@ use Rattle.cs_eval.specs.declared.question.Question.{Question}
 use Rattle.cs_eval.specs.declared.question.Question.TheVariants as question
 use Rattle.cs_eval.specs.Operands.{IsFixed}
 
--- a term whose symbol, where it has one, is declared
+-- a term whose symbol, if it has one, is declared
 pub record IsOperand (sets : Sets) (term : Lin) : Type 0 where
   pub is_term : IsTerm term
   pub declared : IsDeclared sets term.sym
 
--- an operand that counts: it has no value below 0, and none under this valuation
+-- an operand that is a count: its values aren't below 0, nor is its value under this valuation
 pub record IsCount (sets : Sets) (v : Valuation) (term : Lin) : Type 0 where
   pub operand : IsOperand sets term
   pub values : (sym : Sym) (set : List Interval) → term.sym ≡ Some sym → set_of sets sym.0 ≡ Some set → (x : ℤ) → IsTrue (contains set x)
       → pos 0 ≤ℤ value_at term x
   pub here : pos 0 ≤ℤ value_of v term
 
--- all operands of a question are such terms. Only those of the order test of `calloc` have to count
+-- all operands of a question are such terms. Only those of the order test of `calloc` have to be counts
 abbrev pub HasOperands : Sets → Valuation → Question → Type 0
 HasOperands sets v (question.Binary op ty left right) = IsOperand sets left × IsOperand sets right
 HasOperands sets v (question.Unary op ty term) = Unit {0}

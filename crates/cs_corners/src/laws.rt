@@ -1,7 +1,7 @@
 //! Laws of corners.
 ghost use Rattle.cs_corners.specs.Laws.{CornersHaveGround, GuessesAreUsable};
 
-/// An operation that isn't followed exactly has its ground at one or two corners.
+/// For an operation that isn't followed exactly, one or two corners are the ground of its guess.
 pub fn corners_have_ground()
     ensures { CornersHaveGround }
 {}

@@ -1,4 +1,5 @@
-//! Corners: where an operation isn't followed exactly, other valuations give the ground to guess its result. Definitions and laws.
+//! Corners: valuations that are the ground to guess the result of an operation that isn't followed exactly.
+//! Definitions and laws.
 #![tactic(auto)]
 
 pub mod laws;

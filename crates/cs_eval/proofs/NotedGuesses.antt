@@ -1,4 +1,4 @@
--- What the pieces record of a prepared question is noted of the question as asked: for the contract of `answers`.
+-- What the pieces record about a prepared question is noted about the original one: for the contract of `answers`.
 use Rattle.std.proofs.Common.{◌≡◌, List, [], ◌∷◌, Option, subst, sym, ◌∙◌}
 use Rattle.std.specs.Prelude.{IfSome}
 use Rattle.std.proofs.lemmas.Option.{none-some}

@@ -1,4 +1,4 @@
--- What is the same of an operand and its form: for the contract of `answers`.
+-- What an operand and its prepared form have in common: for the contract of `answers`.
 use Rattle.std.proofs.Common.{◌≡◌, ◌≢◌, ◌⊎◌, inl, inr, Bool, true, false, ℤ, List, Option, Some, None, refl, sym, ap, subst, ◌∙◌}
 use Rattle.std.proofs.Common.{arith}
 use Rattle.std.specs.Ordering.{int_eq}

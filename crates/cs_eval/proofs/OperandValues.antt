@@ -1,4 +1,4 @@
--- The values of operands: for those who split constraints by a term.
+-- The values of operands: for the functions that split constraints by a term.
 use Rattle.std.proofs.Common.{◌≡◌, ◌≢◌, ◌⊎◌, inl, inr, ◌^◌, ℕ, Bool, true, ℤ, pos, ◌+ℤ◌, List, Option, Some, None, refl, sym}
 use Rattle.std.proofs.Common.{ap, subst, ◌∙◌, arith}
 use Rattle.std.specs.Prelude.{IsNone, neg_ℤ, if◌then◌else◌}

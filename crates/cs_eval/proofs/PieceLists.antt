@@ -1,4 +1,4 @@
--- Lists of pieces put together: for those who show that pieces are a split.
+-- Concatenated lists of pieces: for the proofs that pieces are a split.
 use Rattle.std.proofs.Common.{◌≡◌, ◌≢◌, inl, inr, ℕ, List, [], ◌∷◌, ◌++◌, sym, ◌∙◌}
 use Rattle.cs_terms.specs.Term.{Valuation}
 use Rattle.cs_types.specs.declared.data_model.DataModel.{DataModel}

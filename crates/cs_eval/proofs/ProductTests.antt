@@ -1,4 +1,4 @@
--- The order test of `calloc`: for the contracts of `product_test` and what it calls.
+-- The order test of `calloc`: for the contracts of `product_test` and of the functions that it calls.
 use Rattle.std.proofs.Common.{◌≡◌, ◌⊎◌, inl, inr, ℕ, zero, suc, ◌*◌, ◌/◌, ◌≤◌, Bool, true, false, ℤ, pos, negsuc, ◌+ℤ◌}
 use Rattle.std.proofs.Common.{◌-ℤ◌}
 use Rattle.std.proofs.Common.{◌*ℤ◌, List, Option, Some, None, refl, sym, ap, subst, ◌∙◌, arith, to_z, of_z, FitsSigned}

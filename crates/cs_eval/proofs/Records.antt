@@ -1,4 +1,4 @@
--- What the pieces with a guess record, by their shape: for the contracts of those who make them.
+-- What the pieces with a guess record, depending on their shape: for the contracts of the functions that make them.
 use Rattle.std.proofs.Common.{◌≡◌, inl, inr, ℕ, ℤ, pos, ◌-ℤ◌, List, [], ◌∷◌, ◌++◌, Option, Some, None, refl, sym, ap, subst}
 use Rattle.std.proofs.Common.{◌∙◌}
 use Rattle.std.specs.Prelude.{IfSome}

@@ -1,4 +1,4 @@
--- A split of what is asked is one of what asks the same under each valuation that fits: for the contract of `answers`.
+-- A split of a question is one of any question that is the same under each valuation that fits: for the contract of `answers`.
 use Rattle.std.proofs.Common.{◌≡◌, inl, inr, ℕ, ℤ, List, [], ◌∷◌, Option, Some, None, sym, ap, subst, ◌∙◌}
 use Rattle.cs_types.specs.declared.data_model.DataModel.{DataModel}
 use Rattle.cs_terms.specs.declared.symbol.Sym.{Sym}

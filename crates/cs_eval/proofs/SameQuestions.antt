@@ -1,4 +1,4 @@
--- A question and its form ask the same under each valuation that fits: for the contract of `answers`.
+-- A question and its prepared form are the same under each valuation that fits: for the contract of `answers`.
 use Rattle.std.proofs.Common.{◌≡◌, ◌⊎◌, inl, inr, ℕ, ℤ, pos, ◌+ℤ◌, ◌-ℤ◌, ◌*ℤ◌, List, Some, refl, sym, ap, subst, ◌∙◌}
 use Rattle.std.specs.Prelude.{◌≤ℤ◌, int_le}
 use Rattle.cs_types.specs.declared.data_model.DataModel.{DataModel}

@@ -1,4 +1,4 @@
--- What the ends of a number say of its comparison with 0: for the contract of `followed_by_sign`.
+-- Whether the ends of a number's values decide its comparison with 0: for the contract of `followed_by_sign`.
 use Rattle.std.proofs.Common.{◌≡◌, ◌⊎◌, inl, inr, Bool, true, false, ◌||◌, ℤ, pos, ◌-ℤ◌, refl, sym, ap, ◌∙◌, arith}
 use Rattle.std.specs.Prelude.{int_lt, int_le}
 use Rattle.std.proofs.lemmas.Int.{ints}

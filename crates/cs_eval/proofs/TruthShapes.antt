@@ -1,4 +1,4 @@
--- The pieces of a truth by how it is followed: for the contract of `truth_split`.
+-- The pieces of a truth, depending on how it is followed: for the contract of `truth_split`.
 use Rattle.std.proofs.Common.{◌≡◌, ℕ, Bool, true, false, pos, List, [], ◌∷◌, ◌++◌, sym, ap, subst, ◌∙◌}
 use Rattle.cs_ast.specs.declared.typed.operator.CmpOp.{CmpOp}
 use Rattle.cs_terms.specs.declared.term.Lin.{Lin}

@@ -1,4 +1,4 @@
--- The pieces of an operation that is followed by two halves: for tests, comparisons and order tests.
+-- The pieces of an operation that is followed in two halves: for tests, comparisons and order tests.
 use Rattle.std.proofs.Common.{◌≡◌, ◌≢◌, inl, inr, ℕ, Bool, true, false, List, ◌++◌, Option, Some, None, Result, Ok}
 use Rattle.std.proofs.Common.{Err, refl, sym, ap, ◌∙◌}
 use Rattle.std.specs.Prelude.{IfOk}

@@ -1,4 +1,4 @@
--- Which case of a `switch` a number takes, and the pieces of that.
+-- The case of a `switch` that a number takes, and the pieces of a `switch`.
 use Rattle.std.specs.Prelude.{◌≡◌, ◌↔◌, ℕ, ◌<◌, ◌≤◌, ℤ, true, suc, List, [], ◌∷◌, Some, if◌then◌else◌}
 use Rattle.std.specs.Ordering.{int_eq}
 use Rattle.cs_types.specs.declared.data_model.DataModel.{DataModel}
@@ -14,12 +14,12 @@ use Rattle.cs_events.specs.declared.operation.Operation.TheVariants as operation
 use Rattle.cs_eval.specs.declared.piece.Piece.{Piece}
 use Rattle.cs_eval.specs.Splits.{Asking, IsPieceOf, Each, HaveOwnLabels, IsCovered, IsSplit}
 
--- how many cases come before the first one that has the number: all of them where none has it
+-- how many cases precede the first one with the number: all, if none has it
 abbrev pub case_of : List SwitchCase → ℤ → ℕ
 case_of [] number = 0
 case_of (one ∷ cases) number = if int_eq one.value number then 0 else suc (case_of cases number)
 
--- what a `switch` asks: which case the term's value takes. That is always followed, and no number leads on
+-- the question of a `switch`: which case the term's value takes. It is always followed, and the operation continues without a number
 abbrev pub asking_of_cases : Lin → List SwitchCase → Asking
 asking_of_cases term cases = record {
   operation = λ v. operation.Show (label.Case (case_of cases (value_of v term)));
@@ -28,11 +28,11 @@ asking_of_cases term cases = record {
   Mentions = λ sym. term.sym ≡ Some sym;
 }
 
--- the pieces of a `switch`: one for each case that some valuation takes, with just the valuations that take it
+-- the pieces of a `switch`: one for each case that some valuation takes, with exactly the valuations that take it
 abbrev pub AreCases : Sets → Lin → List SwitchCase → List Piece → Type 0
 AreCases sets term cases pieces = (model : DataModel) (guess : ℕ) → IsSplit model sets guess (asking_of_cases term cases) pieces
 
--- the piece shows a case before this one
+-- the piece shows an earlier case
 pub record IsBefore (n : ℕ) (piece : Piece) : Type 0 where
   pub number : ℕ
   pub before : number < n
@@ -55,7 +55,7 @@ pub record IsCaseAt (cases : List SwitchCase) (n : ℕ) (value : ℤ) : Type 0 w
   pub alone : (x : ℤ) → case_of cases x ≡ n → x ≡ value
   pub reached : case_of cases value ≤ n
 
--- what a case adds to the pieces of those before it, and what is left then
+-- what a case adds to the pieces of the earlier cases, and which numbers remain
 pub record IsCasePushed (sets : Sets) (term : Lin) (n : ℕ) (value : ℤ) (left rest : List Interval) (before after : List Piece) : Type 0 where
   pub left_is : (cases : List SwitchCase) → IsCaseAt cases n value → AreLeft cases n left → AreLeft cases (suc n) rest
   pub first : (cases : List SwitchCase) → IsCaseAt cases n value → AreLeft cases n left → AreFirst sets term cases n before

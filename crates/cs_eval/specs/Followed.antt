@@ -1,4 +1,4 @@
--- Which operations are followed exactly, and which numbers may be guessed where one isn't.
+-- Which operations are followed exactly, and which numbers may be guessed for the others.
 use Rattle.std.specs.Prelude.{◌≡◌, ◌⊎◌, ℕ, ◌≤◌, ◌-◌, Bool, true, false, ℤ, pos, neg_ℤ, ◌+ℤ◌, ◌-ℤ◌, ◌*ℤ◌}
 use Rattle.std.specs.Prelude.{◌≤ℤ◌, unsigned_abs, int_le}
 use Rattle.std.specs.Prelude.{List, Some}
@@ -29,11 +29,12 @@ use Rattle.cs_eval.specs.Splits.{Asking, IsSplit}
 abbrev pub Numbers : Type 0
 Numbers = Valuation → ℤ
 
--- under every valuation that fits, the number compares so with 0
+-- under every valuation that fits, this comparison of the number with 0 has this result
 abbrev pub Always : Sets → CmpOp → Numbers → Bool → Type 0
 Always sets op number holds = (v : Valuation) → Fits v sets → compares op (number v) (pos 0) ≡ holds
 
--- a comparison with 0 is decided by the ends of the ranges: it always holds or never does. For an equation the number is always above 0 or always below
+-- a comparison with 0 is decided by the ends of the ranges: it always holds or never does. For an equation, the number is always above 0 or
+-- always below it
 abbrev pub IsDecided : Sets → CmpOp → Numbers → Type 0
 IsDecided sets Equal number = Always sets More number true ⊎ Always sets Less number true
 IsDecided sets Differs number = Always sets More number true ⊎ Always sets Less number true
@@ -42,8 +43,8 @@ IsDecided sets AtMost number = Always sets AtMost number true ⊎ Always sets At
 IsDecided sets More number = Always sets More number true ⊎ Always sets More number false
 IsDecided sets AtLeast number = Always sets AtLeast number true ⊎ Always sets AtLeast number false
 
--- the products of any two numbers that the terms may be are all at most the bound, or none is: as the two greatest or the two least say, where no number is
--- below 0
+-- the products of any two values of the terms are all at most the bound, or none is; the two greatest or the two least values show which,
+-- as no value is below 0
 abbrev pub IsProductDecided : DataModel → Sets → Lin → Lin → Type 0
 IsProductDecided model sets count size = (holds : Bool) × ((v w : Valuation) → Fits v sets → Fits w sets
     → int_le (value_of v count *ℤ value_of w size) (pos (product_bound_of model)) ≡ holds)
@@ -56,7 +57,7 @@ AreFixed sets left right = IsFixed sets left × IsFixed sets right
 abbrev pub IsNear : DataModel → Question → Valuation → Type 0
 IsNear model asked v = ¬ IsFar (own_quotient model (operation_of v asked))
 
--- which operands an operator of two integers is followed with where its quotient is near
+-- with which operands an operator of two integers is followed if its quotient is near
 abbrev pub IsFollowedNear : Sets → BinOp → Lin → Lin → Type 0
 IsFollowedNear sets Add left right = AreOverOne sets left right
 IsFollowedNear sets Sub left right = AreOverOne sets left right
@@ -69,11 +70,11 @@ IsFollowedNear sets And left right = AreFixed sets left right
 IsFollowedNear sets Xor left right = AreFixed sets left right
 IsFollowedNear sets Or left right = AreFixed sets left right
 
--- the valuation gives each symbol with one number left that number, and any to the others
+-- under the valuation, each symbol that can only have one number has it, and the others have any
 abbrev pub FitsFixed : Valuation → Sets → Type 0
 FitsFixed v sets = (sym : ℕ) (set : List Interval) (number : ℤ) → set_of sets sym ≡ Some set → IsOnly set number → v sym ≡ number
 
--- the elements' bytes divide the difference of the offsets whatever the numbers of the symbols are: they divide its value and its slope
+-- the size of the elements divides the difference of the offsets, whatever the numbers of the symbols are: it divides its value and its slope
 abbrev pub IsDivided : Sets → Lin → Lin → ℕ → Type 0
 IsDivided sets left right size = (v : Valuation) → FitsFixed v sets → (n : ℤ) × (value_of v left -ℤ value_of v right ≡ n *ℤ pos size)
 
@@ -96,7 +97,7 @@ IsFollowed model sets (question.Callee function) v = Unit {0}
 abbrev pub IsRemainder : IntType → ℤ → ℤ → Type 0
 IsRemainder ty divisor number = (unsigned_abs number ≤ unsigned_abs divisor - 1) × (has_sign ty ≡ false → pos 0 ≤ℤ number)
 
--- which numbers may be guessed for an operator of two integers, by the operands that are constants
+-- which numbers may be guessed for an operator of two integers, depending on which operands are constants
 abbrev pub IsBinaryGuess : DataModel → Sets → BinOp → IntType → Lin → Lin → Valuation → ℤ → Type 0
 IsBinaryGuess model sets Rem ty left right v number =
     InRange model ty number × (IsFixed sets right → IsRemainder ty (value_of v right) number)
@@ -132,7 +133,7 @@ Mentions (question.Difference left right size) sym = (left.sym ≡ Some sym) ⊎
 Mentions (question.Test tested term) sym = term.sym ≡ Some sym
 Mentions (question.Callee function) sym = ⊥
 
--- what a question asks
+-- the operation of a question, with what is followed and what may be guessed
 abbrev pub asking_of : DataModel → Sets → Question → Asking
 asking_of model sets asked = record {
   operation = λ v. operation_of v asked;

@@ -1,4 +1,4 @@
--- The form that operands take before an operation on them is followed: a term whose symbol has one number left becomes that constant.
+-- The form of operands before an operation on them is followed: a term whose symbol can only have one number becomes a constant.
 use Rattle.std.specs.Prelude.{◌≡◌, ℤ, List, [], ◌∷◌, None}
 use Rattle.cs_types.specs.declared.data_model.DataModel.{DataModel}
 use Rattle.cs_terms.specs.declared.term.Lin.{Lin}
@@ -13,7 +13,7 @@ use Rattle.cs_eval.specs.declared.question.Question.TheVariants as question
 use Rattle.cs_eval.specs.Parts.{number_term, unguessed}
 use Rattle.cs_eval.specs.Questions.{operation_of}
 
--- what `Constraints::prepared` made of a term over a declared symbol
+-- the result of `Constraints::prepared` for a term over a declared symbol
 pub record IsFormOf (sets : Sets) (given made : Lin) : Type 0 where
   pub declared : IsDeclared sets given.sym
   pub value : (v : Valuation) → Fits v sets → value_of v made ≡ value_of v given
@@ -60,7 +60,7 @@ AreConstants (question.Difference left right size) = (left.sym ≡ None) × (rig
 AreConstants (question.Test tested term) = ⊥
 AreConstants (question.Callee function) = ⊥
 
--- the operation that a question is under each valuation, which its constants make
+-- the operation that a question over constants is under each valuation
 pub record IsConstantOperation (asked : Question) (of : Operation) : Type 0 where
   pub constants : AreConstants asked
   pub same : (v : Valuation) → operation_of v asked ≡ of

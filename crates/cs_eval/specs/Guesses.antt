@@ -26,7 +26,7 @@ pub record AreOfType (model : DataModel) (ty : IntType) (numbers : Interval) : T
   pub low : numbers.low ≡ least_of model ty
   pub high : numbers.high ≡ greatest_of model ty
 
--- the numbers from the one to the other
+-- the numbers from one number to another
 pub record AreFromTo (low high : ℤ) (numbers : Interval) : Type 0 where
   pub low_is : numbers.low ≡ low
   pub high_is : numbers.high ≡ high
@@ -36,18 +36,18 @@ pub record AreRemainders (ty : IntType) (divisor : ℤ) (numbers : Interval) : T
   pub high : numbers.high ≡ pos (unsigned_abs divisor) -ℤ pos 1
   pub low : numbers.low ≡ (if has_sign ty then neg_ℤ numbers.high else pos 0)
 
--- the remainders by a divisor, or the numbers of the type where it isn't a constant
+-- the remainders by a divisor, or the numbers of the type if it isn't a constant
 abbrev pub AreOfRemainder : DataModel → IntType → Option ℤ → Interval → Type 0
 AreOfRemainder model ty None numbers = AreOfType model ty numbers
 AreOfRemainder model ty (Some divisor) numbers = AreRemainders ty divisor numbers
 
--- the numbers up to a mask, or those of the type where none isn't below 0
+-- the numbers up to a mask, or those of the type if there is no constant mask or it is below 0
 abbrev pub AreOfMask : DataModel → IntType → Option ℤ → Interval → Type 0
 AreOfMask model ty None numbers = AreOfType model ty numbers
 AreOfMask model ty (Some (negsuc n)) numbers = AreOfType model ty numbers
 AreOfMask model ty (Some (pos n)) numbers = AreFromTo (pos 0) (pos n) numbers
 
--- the numbers that may be guessed for an operator of two integers, whose constants lie in the type
+-- the numbers that may be guessed for an operator of two integers, whose constants are in the type's range
 abbrev pub AreOfBinary : DataModel → BinOp → IntType → Lin → Lin → Interval → Type 0
 AreOfBinary model Add ty left right numbers = AreOfType model ty numbers
 AreOfBinary model Sub ty left right numbers = AreOfType model ty numbers
@@ -70,16 +70,16 @@ AreNumbers model asks.Product left right numbers = AreFromTo (pos 0) (pos 1) num
 AreNumbers model asks.Sum left right numbers = AreFromTo (neg_ℤ (pos (offset_bound_of model))) (pos (offset_bound_of model)) numbers
 AreNumbers model asks.Difference left right numbers = AreOfType model (difference_type_of model) numbers
 
--- the numbers that may be guessed for an operation, of which there are some
+-- the numbers that may be guessed for an operation; there are some
 pub record HasNumbers (model : DataModel) (inexact : Inexact) (numbers : Interval) : Type 0 where
   pub are : AreNumbers model inexact.asks inexact.left inexact.right numbers
   pub some : numbers.low ≤ℤ numbers.high
 
--- the term that is the symbol
+-- a symbol as a term
 abbrev pub symbol_term : Sym → Lin
 symbol_term sym = record { sym = Some sym; slope = pos 1; at = pos 0; value = pos 0 }
 
--- the piece of a guess that lies between the ends: the guess symbol is declared with these numbers besides, and leads on
+-- the piece of a guess between the ends: it also declares the guess symbol with these numbers, and the operation continues with it
 pub record IsGuessPiece (constraints : Sets) (guess : ℕ) (label : Label) (numbers : Interval) (piece : Piece) : Type 0 where
   pub shown : piece.label ≡ label
   pub what : Guessed

@@ -1,4 +1,4 @@
--- What is noted of a guess.
+-- What is noted about a guess.
 use Rattle.std.specs.Prelude.{◌≡◌, ℕ, ℤ, pos, List, Option, Some, None, IsSome, IsNone}
 use Rattle.cs_types.specs.declared.data_model.DataModel.{DataModel}
 use Rattle.cs_ranges.specs.declared.range_set.Interval.{Interval}
@@ -20,7 +20,7 @@ use Rattle.cs_eval.specs.Followed.{IsFollowed, IsGuess}
 use Rattle.cs_eval.specs.Questions.{operation_of}
 use Rattle.cs_eval.specs.Ready.{HasReadyOperands}
 
--- the question of an operation on two operands. How many bytes the elements have that a pointer is moved by, or that lie between two, isn't noted
+-- the question of an operation on two operands. The size of the elements, for a sum or a difference of pointers, isn't noted
 abbrev pub IsQuestionOf : Asks → Lin → Lin → Question → Type 0
 IsQuestionOf (asks.Binary op ty) left right meant = meant ≡ question.Binary op ty left right
 IsQuestionOf (asks.Convert ty) left right meant = meant ≡ question.Convert ty left
@@ -30,28 +30,29 @@ IsQuestionOf asks.Product left right meant = meant ≡ question.Product left rig
 IsQuestionOf asks.Sum left right meant = (bytes : ℕ) × (meant ≡ question.Sum left right bytes)
 IsQuestionOf asks.Difference left right meant = (bytes : ℕ) × (meant ≡ question.Difference left right bytes)
 
--- there is a fact just of comparisons, and of order tests other than that of `calloc`, whose operands are the two parts of its term
+-- there is a fact exactly for comparisons and for order tests other than that of `calloc`. The operands of such an order test are the two
+-- parts of the fact's term
 abbrev pub HasFact : Asks → Lin → Lin → Option Fact → Type 0
 HasFact (asks.Compare op) left right fact = IsSome fact
 HasFact asks.Order left right fact = (found : Fact) × (fact ≡ Some found) × (found.term ≡ record { first = left; second = right })
 HasFact other left right fact = IsNone fact
 
--- the operation's own result is 1 where the fact's term compares with 0 as the fact says, and else 0
+-- the operation's own result is 1 if the fact's comparison of its term with 0 holds, else 0
 abbrev pub DeterminesResult : DataModel → Option Fact → Question → Valuation → Type 0
 DeterminesResult model None meant v = Unit {0}
 DeterminesResult model (Some fact) meant v = own_result model (operation_of v meant) ≡ truth_number (compares fact.op (value_of_sum v fact.term) (pos 0))
 
--- the ends are the least and the greatest number of the symbol's range, where there is a symbol
+-- the ends are the least and the greatest number of the symbol's range, if there is a symbol
 abbrev pub IsRangeOf : Sets → Option Sym → Interval → Type 0
 IsRangeOf sets symbol ends = (sym : Sym) → symbol ≡ Some sym
     → (set : List Interval) × (set_of sets sym.0 ≡ Some set) × IsLeast set ends.low × IsGreatest set ends.high
 
--- where there is no symbol, 0 stands for both ends
+-- without a symbol, both ends are 0
 abbrev pub HasNoEnds : Option Sym → Interval → Type 0
 HasNoEnds symbol ends = symbol ≡ None → ends ≡ record { low = pos 0; high = pos 0 }
 
--- what is noted of a guess, where a question is asked under these sets: a question with the same operation under each valuation that fits, in the form
--- in which it was decided
+-- what is noted about a guess for a question under these sets: a question with the same operation under each valuation that fits, in the
+-- form in which it was decided
 pub record IsNoted (model : DataModel) (sets : Sets) (given : Question) (what : Asks) (left right : Lin) (ends : Ends) (fact : Option Fact) : Type 0 where
   pub meant : Question
   pub asked : IsQuestionOf what left right meant

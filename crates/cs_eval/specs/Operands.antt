@@ -12,11 +12,11 @@ use Rattle.cs_terms.specs.Term.{Valuation, value_of, value_of_sum, value_at, IsT
 use Rattle.cs_constraints.specs.Prepared.{HasIntegers, IsPrepared}
 use Rattle.cs_constraints.specs.Constraints.{Sets, set_of, Fits, IsDeclared, HasOneNumber}
 
--- the number lies from the one bound to the other
+-- the number is within both bounds
 abbrev pub IsBetween : ℤ → ℤ → ℤ → Type 0
 IsBetween low high number = (low ≤ℤ number) × (number ≤ℤ high)
 
--- a term whose symbol, where it has one, is declared, and whose values lie between the bounds
+-- a term whose symbol, if it has one, is declared, and whose values are within the bounds
 pub record IsTermBetween (sets : Sets) (low high : ℤ) (term : Lin) : Type 0 where
   pub is_term : IsTerm term
   pub declared : IsDeclared sets term.sym
@@ -24,15 +24,15 @@ pub record IsTermBetween (sets : Sets) (low high : ℤ) (term : Lin) : Type 0 wh
   pub values : (sym : Sym) (set : List Interval) → term.sym ≡ Some sym → set_of sets sym.0 ≡ Some set → (x : ℤ) → IsTrue (contains set x)
       → IsBetween low high (value_at term x)
 
--- a term whose values lie from -2^126 to 2^126, as those of sets do
+-- a term whose values are from -2^126 to 2^126, as those of sets are
 abbrev pub IsTermInside : Sets → Lin → Type 0
 IsTermInside sets term = IsTermBetween sets (neg_ℤ (pos (2 ^ 126))) (pos (2 ^ 126)) term
 
--- a term whose values lie in a type
+-- a term whose values are in the range of a type
 abbrev pub IsTermInType : DataModel → Sets → IntType → Lin → Type 0
 IsTermInType model sets ty term = IsTermBetween sets (least_of model ty) (greatest_of model ty) term
 
--- the number of a constant
+-- the value of a term without a symbol
 abbrev pub constant_with : Option Sym → ℤ → Option ℤ
 constant_with None value = Some value
 constant_with (Some sym) value = None
@@ -52,26 +52,26 @@ pub record IsRaised (given : Lin) (by : ℤ) (made : Lin) : Type 0 where
   pub place : made.at ≡ given.at
   pub value : made.value ≡ given.value +ℤ by
 
--- the term is a constant, or its symbol has one number left
+-- the term is a constant, or its symbol can only have one number
 abbrev pub IsFixed : Sets → Lin → Type 0
 IsFixed sets term = (term.sym ≡ None) ⊎ ((number : ℤ) × HasOneNumber sets term.sym number)
 
--- both terms are over one symbol at most
+-- both terms together are over at most one symbol
 abbrev pub AreOverOne : Sets → Lin → Lin → Type 0
 AreOverOne sets left right = IsFixed sets left ⊎ (IsFixed sets right ⊎ (left.sym ≡ right.sym))
 
--- the bounds of the parts of order tests, which the integers of C keep
+-- the bounds of the parts of order tests; the integers of C are within them
 abbrev pub LOWEST : ℤ
 LOWEST = neg_ℤ (pos (2 ^ 100))
 
 abbrev pub HIGHEST : ℤ
 HIGHEST = pos (2 ^ 100)
 
--- the two valuations give all symbols but the one the same numbers
+-- the two valuations agree on all symbols but one
 abbrev pub AgreeBeside : Option Sym → Valuation → Valuation → Type 0
 AgreeBeside symbol v w = (other : Sym) → symbol ≢ Some other → w other.0 ≡ v other.0
 
--- a valuation that fits and differs from another one at the term's symbol alone, and the term's value under it
+-- a valuation that fits and differs from another one only at the term's symbol, and the term's value under it
 pub record IsAttainedFrom (sets : Sets) (term : Lin) (number : ℤ) (v : Valuation) : Type 0 where
   pub at : Valuation
   pub fits : Fits at sets
@@ -81,14 +81,14 @@ pub record IsAttainedFrom (sets : Sets) (term : Lin) (number : ℤ) (v : Valuati
 abbrev pub IsAttained : Sets → Lin → ℤ → Type 0
 IsAttained sets term number = (v : Valuation) → Fits v sets → IsAttainedFrom sets term number v
 
--- under every valuation that fits, the term's value lies between the ends, and each end is its value under one that differs from a given one at the term's
--- symbol alone
+-- under every valuation that fits, the term's value is within the ends, and each end is its value under one that differs from a given one
+-- only at the term's symbol
 pub record HasEnds (sets : Sets) (term : Lin) (ends : Interval) : Type 0 where
   pub bounds : (v : Valuation) → Fits v sets → IsBetween ends.low ends.high (value_of v term)
   pub low : IsAttained sets term ends.low
   pub high : IsAttained sets term ends.high
 
--- over the numbers of its symbol the term has the ends as values, and all others lie between them
+-- over the numbers of its symbol, the term has the ends as values, and its other values are between them
 pub record HasEndsOver (term : Lin) (range : List Interval) (ends : Interval) : Type 0 where
   pub bounds : (x : ℤ) → IsTrue (contains range x) → IsBetween ends.low ends.high (value_at term x)
   pub low_at : ℤ
@@ -104,17 +104,17 @@ pub record IsSumAt (sets : Sets) (term : Lin2) (number : ℤ) : Type 0 where
   pub fits : Fits at sets
   pub value : value_of_sum at term ≡ number
 
--- under every valuation that fits, the sum of two terms lies between the ends, and where they are over two symbols it is either end under some
+-- under every valuation that fits, the sum of two terms is within the ends; if they are over two symbols, some valuations attain each end
 pub record IsEndsOfSum (sets : Sets) (term : Lin2) (ends : Interval) : Type 0 where
   pub bounds : (v : Valuation) → Fits v sets → IsBetween ends.low ends.high (value_of_sum v term)
   pub low : HaveTwoSymbols term.first.sym term.second.sym → (v : Valuation) → Fits v sets → IsSumAt sets term ends.low
   pub high : HaveTwoSymbols term.first.sym term.second.sym → (v : Valuation) → Fits v sets → IsSumAt sets term ends.high
 
--- the term's symbol, where it has one, has more than one number
+-- the term's symbol, if it has one, can have more than one number
 abbrev pub IsSeveral : Sets → Lin → Type 0
 IsSeveral sets term = (number : ℤ) → ¬ HasOneNumber sets term.sym number
 
--- an operand as `Constraints::prepared` leaves it: over a symbol that has two numbers, if over any, with integers of C as values
+-- an operand as `Constraints::prepared` returns it: constant, or over a symbol that can have two numbers, with integers of C as values
 pub record IsReadyOperand (sets : Sets) (term : Lin) : Type 0 where
   pub prepared : IsPrepared sets term
   pub integers : HasIntegers sets term

@@ -15,7 +15,8 @@ use Rattle.cs_eval.specs.declared.piece.Piece.{Piece}
 abbrev pub Truths : Type 0
 Truths = Valuation → Bool
 
--- the valuations that fit and have the truth are kept, and there are some; no symbol comes or goes, none gains a number, and none but the one loses any
+-- exactly the valuations that fit and have the truth remain, and there are some; no symbol is added or removed, none gains a number, and
+-- only the given one loses any
 pub record IsPart (before : Sets) (symbol : Option Sym) (truth : Truths) (holds : Bool) (after : Sets) : Type 0 where
   pub exactly : (v : Valuation) → Fits v after ↔ (Fits v before × (truth v ≡ holds))
   pub some : (v : Valuation) × Fits v after
@@ -24,7 +25,7 @@ pub record IsPart (before : Sets) (symbol : Option Sym) (truth : Truths) (holds 
       → (x : ℤ) → IsTrue (contains found x) → IsTrue (contains range x)
   pub others : (other : Sym) → symbol ≢ Some other → set_of after other.0 ≡ set_of before other.0
 
--- the valuations that have the truth, or none where no valuation that fits has it
+-- the valuations that have the truth, or none if no valuation that fits has it
 abbrev pub IsHalf : Sets → Option Sym → Truths → Bool → Option Sets → Type 0
 IsHalf before symbol truth holds None = (v : Valuation) → Fits v before → truth v ≡ not holds
 IsHalf before symbol truth holds (Some after) = IsPart before symbol truth holds after
@@ -34,7 +35,7 @@ pub record AreHalves (before : Sets) (symbol : Option Sym) (truth : Truths) (hal
   pub holds : IsHalf before symbol truth true halves.holds
   pub fails : IsHalf before symbol truth false halves.fails
 
--- the term that is this number
+-- a number as a term
 abbrev pub number_term : ℤ → Lin
 number_term number = record { sym = None; slope = pos 0; at = pos 0; value = number }
 
@@ -42,7 +43,7 @@ number_term number = record { sym = None; slope = pos 0; at = pos 0; value = num
 abbrev pub unguessed : Label → Lin → Sets → Piece
 unguessed what number constraints = record { label = what; constraints = constraints; answer = number; guessed = None }
 
--- the piece of a half, where it is there
+-- the piece of a half, if this isn't empty
 abbrev pub unguessed_if : Label → Lin → Option Sets → List Piece
 unguessed_if what number None = []
 unguessed_if what number (Some constraints) = unguessed what number constraints ∷ []

@@ -17,11 +17,11 @@ use Rattle.cs_eval.specs.Operands.{IsFixed, IsTermBetween, IsTermInside}
 abbrev pub IsTermOfCounts : Sets → Lin → Type 0
 IsTermOfCounts sets term = IsTermBetween sets (pos 0) (pos (2 ^ 64 - 1)) term
 
--- whether so many elements of so many bytes are few enough
+-- whether the product of a count and a size is within the bound
 abbrev pub is_few : DataModel → ℤ → ℤ → Bool
 is_few model count size = int_le (count *ℤ size) (pos (product_bound_of model))
 
--- where a term's product with a factor is within the bound is said by another term
+-- a comparison of another term with 0 determines whether a term's product with a factor is within the bound
 pub record IsFewWhere (model : DataModel) (sets : Sets) (term : Lin) (factor : ℤ) (op : CmpOp) (by : Lin) : Type 0 where
   pub inside : IsTermInside sets by
   pub truth : (v : Valuation) → Fits v sets → is_few model (value_of v term) factor ≡ compares op (value_of v by) (pos 0)
@@ -33,14 +33,14 @@ IsFollowedByFactor model sets term factor (Where op by) = IsFewWhere model sets 
 IsFollowedByFactor model sets term factor (AlwaysIs holds) = (v : Valuation) → Fits v sets → is_few model (value_of v term) factor ≡ holds
 IsFollowedByFactor model sets term factor No = ⊥
 
--- how it is followed by the ends of both factors
+-- how the ends of both factors decide it
 abbrev pub IsFollowedByEnds : DataModel → Sets → Lin → Lin → Followed → Type 0
 IsFollowedByEnds model sets count size (Where op by) = ⊥
 IsFollowedByEnds model sets count size (AlwaysIs holds) =
     (v w : Valuation) → Fits v sets → Fits w sets → is_few model (value_of v count) (value_of w size) ≡ holds
 IsFollowedByEnds model sets count size No = (v : Valuation) → Fits v sets → ¬ IsProductDecided model sets count size
 
--- one factor is a constant, and by one term it is said where the product is within the bound
+-- one factor is a constant, and a comparison of one term with 0 determines whether the product is within the bound
 pub record IsProductWhere (model : DataModel) (sets : Sets) (count size : Lin) (op : CmpOp) (by : Lin) : Type 0 where
   pub fixed : IsFixed sets count ⊎ IsFixed sets size
   pub inside : IsTermInside sets by

@@ -1,4 +1,4 @@
--- The operation of the run that a question is under a valuation.
+-- The operation of the run that a question represents under a valuation.
 use Rattle.std.specs.Prelude.{Bool, not, ℤ}
 use Rattle.cs_terms.specs.Term.{Valuation, value_of}
 use Rattle.cs_events.specs.declared.event.Label.{Label}
@@ -11,7 +11,7 @@ use Rattle.cs_eval.specs.declared.question.Question.TheVariants as question
 use Rattle.cs_eval.specs.declared.question.Tested.{Tested}
 use Rattle.cs_eval.specs.declared.question.Tested.TheVariants.{Look, Branch, Truth, Not, Alloc}
 
--- what a test shows where it holds, and where it doesn't
+-- what a test shows if it holds, and if it doesn't
 abbrev pub label_of : Tested → Bool → Label
 label_of Look holds = label.Look holds
 label_of Branch holds = label.Branch holds

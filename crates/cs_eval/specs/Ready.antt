@@ -1,4 +1,4 @@
--- Operands in the form that arithmetic on terms asks for.
+-- Operands in the form that arithmetic on terms requires.
 use Rattle.std.specs.Prelude.{◌≡◌, ℕ, None}
 use Rattle.cs_terms.specs.declared.term.Lin.{Lin}
 use Rattle.cs_constraints.specs.Constraints.{Sets, set_of}
@@ -6,7 +6,7 @@ use Rattle.cs_eval.specs.declared.question.Question.{Question}
 use Rattle.cs_eval.specs.declared.question.Question.TheVariants as question
 use Rattle.cs_eval.specs.Operands.{IsTermBetween, HaveSymbol, IsReadyOperand, IsSeveral, LOWEST, HIGHEST}
 
--- a part of an order test: over a symbol that has two numbers, if over any, with values within the bounds of these parts
+-- a part of an order test: constant, or over a symbol that can have two numbers, with values within the bounds of these parts
 abbrev pub IsReadyPart : Sets → Lin → Type 0
 IsReadyPart sets term = IsTermBetween sets LOWEST HIGHEST term × IsSeveral sets term
 

@@ -1,4 +1,4 @@
--- What the pieces with a guess record of it: the question whose operands are in the form that arithmetic on terms asks for.
+-- What the pieces with a guess record about it: the question, with its operands in the form that arithmetic on terms requires.
 use Rattle.std.specs.Prelude.{◌≡◌, ℕ, List, Option, None, IfSome}
 use Rattle.cs_types.specs.declared.data_model.DataModel.{DataModel}
 use Rattle.cs_ranges.specs.declared.range_set.Interval.{Interval}
@@ -17,7 +17,7 @@ use Rattle.cs_eval.specs.Followed.{AreAnswers}
 use Rattle.cs_eval.specs.Noted.{IsQuestionOf, HasFact, DeterminesResult, IsRangeOf, HasNoEnds}
 use Rattle.cs_eval.specs.Splits.{Each}
 
--- the ends of a symbol's range, if it is declared, and 0 to 0 where there is no symbol
+-- the ends of a symbol's range, if it is declared; both are 0 without a symbol
 pub record AreEndsOf (sets : Sets) (symbol : Option Sym) (ends : Interval) : Type 0 where
   pub range : IsDeclared sets symbol → IsRangeOf sets symbol ends
   pub none : HasNoEnds symbol ends
@@ -35,12 +35,12 @@ pub record IsRecordOf (sets : Sets) (inexact : Inexact) (noted : Guessed) : Type
 abbrev pub RecordsInexact : Sets → Inexact → Piece → Type 0
 RecordsInexact sets inexact piece = IfSome piece.guessed (IsRecordOf sets inexact)
 
--- a conversion has one operand: a constant stands for the other
+-- a conversion has one operand; the other is a constant
 abbrev pub HasNoOther : Asks → Lin → Type 0
 HasNoOther (asks.Convert ty) right = right.sym ≡ None
 HasNoOther other right = Unit {0}
 
--- an operation on two terms, with a fact for those that have one, is the one that is asked about
+-- an operation on two terms, with its fact if it has one, is that of the question
 pub record IsInexactOf (model : DataModel) (sets : Sets) (question : Question) (what : Asks) (left right : Lin) (fact : Option Fact) : Type 0 where
   pub asked : IsQuestionOf what left right question
   pub other : HasNoOther what right
@@ -57,7 +57,7 @@ pub record IsRecordOfQuestion (model : DataModel) (sets : Sets) (question : Ques
 abbrev pub RecordsQuestion : DataModel → Sets → Question → Piece → Type 0
 RecordsQuestion model sets question piece = IfSome piece.guessed (IsRecordOfQuestion model sets question)
 
--- the pieces of a question, which they record where they have a guess
+-- the pieces of a question; those with a guess record it
 pub record AreRecordedAnswers (model : DataModel) (sets : Sets) (guess : ℕ) (question : Question) (pieces : List Piece) : Type 0 where
   pub answers : AreAnswers model sets guess question pieces
   pub records : Each (RecordsQuestion model sets question) pieces

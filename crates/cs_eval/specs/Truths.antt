@@ -17,7 +17,7 @@ use Rattle.cs_eval.specs.Guesses.{IsGuessPiece}
 use Rattle.cs_eval.specs.Operands.{IsTermInside}
 use Rattle.cs_eval.specs.Parts.{AreHalves, number_term, unguessed, unguessed_if}
 
--- the term that a truth goes by has its values inside
+-- the term that determines a truth has its values inside
 abbrev pub IsReady : Sets → Followed → Type 0
 IsReady sets (Where op term) = IsTermInside sets term
 IsReady sets (AlwaysIs holds) = Unit {0}
@@ -49,13 +49,13 @@ pub record AreOfGuess (sets : Sets) (guess : ℕ) (pieces : List Piece) : Type 0
   pub held_is : IsGuessOf sets guess true held
   pub failed_is : IsGuessOf sets guess false failed
 
--- the pieces by how the truth is followed
+-- the pieces of a truth, depending on how it is followed
 abbrev pub ArePiecesOf : Sets → ℕ → Followed → List Piece → Type 0
 ArePiecesOf sets guess (Where op term) pieces = AreOfHalves sets op term pieces
 ArePiecesOf sets guess (AlwaysIs holds) pieces = IsOfAll sets holds pieces
 ArePiecesOf sets guess No pieces = AreOfGuess sets guess pieces
 
--- a comparison of a sum with 0 goes by one term
+-- a comparison of a sum with 0 is one of a single term
 pub record IsFollowedWhere (sets : Sets) (op : CmpOp) (term : Lin2) (by : CmpOp) (sum : Lin) : Type 0 where
   pub comparison : by ≡ op
   pub inside : IsTermInside sets sum

@@ -26,17 +26,17 @@ use Rattle.cs_eval.specs.Guesses.{IsGuessPiece, HasNumbers}
 use Rattle.cs_eval.specs.Parts.{number_term, unguessed}
 use Rattle.cs_eval.specs.Recorded.{RecordsInexact}
 
--- what a guess of an operator of two integers is asked for
+-- an operator of two integers that is guessed
 abbrev pub asked_of : BinOp → IntType → Lin → Lin → Inexact
 asked_of op ty left right = record { asks = asks.Binary op ty; left = left; right = right; fact = None }
 
--- what was there before, and then some more
+-- the earlier pieces, followed by some more
 pub record IsExtended (before : List Piece) (Are : List Piece → Type 0) (after : List Piece) : Type 0 where
   pub added : List Piece
   pub made : after ≡ before ++ added
   pub are : Are added
 
--- the piece of one wrap quotient: just these numbers of the symbol are left, and the wrapped result leads on
+-- the piece of one wrap quotient: exactly these numbers of the symbol remain, and the wrapped result is the answer
 pub record IsPartPiece (sets : Sets) (sym : Sym) (wrap : Wrap) (part : Part) (piece : Piece) : Type 0 where
   pub shown : piece.label ≡ label.Wrap wrap
   pub unguessed : piece.guessed ≡ None
@@ -44,7 +44,7 @@ pub record IsPartPiece (sets : Sets) (sym : Sym) (wrap : Wrap) (part : Part) (pi
   pub inhabited : AreInhabited piece.constraints
   pub answer : (v : Valuation) → Fits v piece.constraints → value_of v piece.answer ≡ value_of v part.product
 
--- the piece of a part, none where the part has no number
+-- the piece of a part; none if the part has no number
 abbrev pub IsOfPart : Sets → Sym → Wrap → Option Part → List Piece → Type 0
 IsOfPart sets sym wrap None pieces = pieces ≡ []
 IsOfPart sets sym wrap (Some part) pieces =
@@ -63,14 +63,14 @@ pub record IsWholeGuess (model : DataModel) (sets : Sets) (guess : ℕ) (inexact
   pub guessed : IsWrapGuess model sets guess inexact piece
   pub records : RecordsInexact sets inexact piece
 
--- the piece of the far wrap quotients: just these numbers of the symbol are left, and the result is guessed
+-- the piece of the far wrap quotients: exactly these numbers of the symbol remain, and the result is guessed
 pub record IsFarGuess (model : DataModel) (sets : Sets) (guess : ℕ) (sym : Sym) (far : List Interval) (inexact : Inexact) (piece : Piece) : Type 0 where
   pub between : Sets
   pub narrowed : IsNarrowed sets sym.0 far between
   pub guessed : IsWrapGuess model between guess inexact piece
   pub records : RecordsInexact sets inexact piece
 
--- the piece of the far wrap quotients, none where no number has one. Where nothing is asked for, no number has
+-- the piece of the far wrap quotients; none if no number has one. Without an operation to guess, no number has one
 abbrev pub IsOfFar : DataModel → Sets → ℕ → Sym → List Interval → Option Inexact → List Piece → Type 0
 IsOfFar model sets guess sym far None pieces = IsEmpty far × (pieces ≡ [])
 IsOfFar model sets guess sym far (Some inexact) pieces =
@@ -99,7 +99,7 @@ pub record AreOfProduct (model : DataModel) (sets : Sets) (guess : ℕ) (ty : In
   pub cut : AreProductPieces model ty term factor range parts
   pub made : AreOfParts model sets guess sym parts asked pieces
 
--- a number's wrap quotient is near, or nothing is asked for
+-- a number's wrap quotient is near, or there is no operation to guess
 abbrev pub IsNearOrUnasked : ℤ → Option Inexact → Type 0
 IsNearOrUnasked quotient None = Unit {0}
 IsNearOrUnasked quotient (Some inexact) = ¬ IsFar quotient
@@ -115,7 +115,7 @@ pub record IsOfConstant (model : DataModel) (sets : Sets) (ty : IntType) (number
   pub near : IsNearOrUnasked (wrap_quotient model ty number) asked
   pub inhabited : AreInhabited sets
 
--- the one piece of a constant that is far, where a guess is asked for
+-- the one piece of a constant with a far quotient, if there is an operation to guess
 pub record IsOfFarConstant (model : DataModel) (sets : Sets) (guess : ℕ) (ty : IntType) (number : ℤ) (asked : Option Inexact)
     (pieces : List Piece) : Type 0 where
   pub inexact : Inexact
@@ -128,7 +128,7 @@ abbrev pub IsConvertedConstant : DataModel → Sets → ℕ → IntType → ℤ 
 IsConvertedConstant model sets guess ty number asked pieces =
     IsOfConstant model sets ty number asked pieces ⊎ IsOfFarConstant model sets guess ty number asked pieces
 
--- the one piece of a term whose values the type has
+-- the one piece of a term whose values are in the type's range
 pub record IsOfUnwrapped (model : DataModel) (sets : Sets) (ty : IntType) (exact : Lin) (pieces : List Piece) : Type 0 where
   pub sym : Sym
   pub range : List Interval
@@ -138,23 +138,23 @@ pub record IsOfUnwrapped (model : DataModel) (sets : Sets) (ty : IntType) (exact
   pub made : pieces ≡ unguessed (label.Wrap Same) exact sets ∷ []
   pub inhabited : AreInhabited sets
 
--- the pieces of an exact result that is converted to a type. A guess is asked for where the far numbers aren't followed
+-- the pieces of an exact result that is converted to a type. There is an operation to guess if the far numbers aren't followed
 abbrev pub AreConverted : DataModel → Sets → ℕ → IntType → Lin → Option Inexact → List Piece → Type 0
 AreConverted model sets guess ty exact asked pieces =
     ((exact.sym ≡ None) × IsConvertedConstant model sets guess ty exact.value asked pieces)
     ⊎ (IsOfUnwrapped model sets ty exact pieces ⊎ AreOfProduct model sets guess ty exact (pos 1) asked pieces)
 
--- the pieces of a sum, which is guessed where it isn't one term
+-- the pieces of a sum, which is guessed if it isn't one term
 abbrev pub AreSummed : DataModel → Sets → ℕ → IntType → Option Lin → Inexact → List Piece → Type 0
 AreSummed model sets guess ty None inexact pieces = IsWholeGuess model sets guess inexact pieces
 AreSummed model sets guess ty (Some exact) inexact pieces = AreConverted model sets guess ty exact (Some inexact) pieces
 
--- the exact result of an operator of one integer, as a term over the operand's symbol at most
+-- the exact result of an operator of one integer, as a term over at most the operand's symbol
 pub record IsExactOfOne (op : UnOp) (term exact : Lin) : Type 0 where
   pub value : (v : Valuation) → value_of v exact ≡ exact_of_one op (value_of v term)
   pub symbol : HasNoOtherSymbol exact.sym term.sym
 
--- the sum as one term, none where the terms have two symbols
+-- the sum as one term, or none if the terms have two symbols
 pub record IsSumOf (left right : Lin) (number : Valuation → ℤ) (sum : Option Lin) : Type 0 where
   pub value : (exact : Lin) (v : Valuation) → sum ≡ Some exact → value_of v exact ≡ number v
   pub is_term : (exact : Lin) → sum ≡ Some exact → IsTerm exact

@@ -1,4 +1,4 @@
-//! Which case of a `switch` a number takes.
+//! The case of a `switch` that a number takes.
 ghost use Rattle.std.specs.Prelude.{◌≡◌, pos, IfOk};
 ghost use Rattle.cs_eval.specs.Cases.{AreCases, IsCasePushed};
 ghost use Rattle.cs_eval.specs.Operands.{IsTermBetween, LOWEST, HIGHEST};
@@ -15,7 +15,7 @@ use cs_ranges::{GREATEST, LEAST, RangeSet};
 use cs_terms::Lin;
 use std::alloc::{AllocError, Global};
 
-/// Which case of a `switch` a number takes: a piece for each case that it may take (of equal cases the first counts), and one for none.
+/// Returns a piece for each case of a `switch` that a number may take (the first of equal ones), and one for none.
 pub fn select(
     alloc: Global,
     constraints: &Constraints,
@@ -35,7 +35,8 @@ pub fn select(
     Ok(pieces)
 }
 
-// Adds the piece of a case, if a number that takes none of the cases before it may take it. The numbers that take none of these cases are left.
+// Adds the piece of a case, if a number that takes no earlier case may take it. Returns the numbers that take
+// none of these cases.
 fn push_case(
     constraints: &Constraints,
     term: Lin,
@@ -59,7 +60,7 @@ fn push_case(
     Ok(rest)
 }
 
-// What the number of a case shows: it leads on to no number.
+// Returns what a case shows. The operation continues without a number, so the answer is 0.
 fn case_shown(number: usize) -> Result<Shown, AllocError>
     ensures label { IfOk result (λ shown. shown.label ≡ Label.Case number) }
     ensures answer { IfOk result (λ shown. shown.answer ≡ number_term (pos 0)) }

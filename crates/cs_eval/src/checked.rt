@@ -1,4 +1,5 @@
-//! Terms whose values are checked before arithmetic on them. A state has no term that fails a check; one that did would be want of memory.
+//! Checks of the values of terms before arithmetic on them. No state has a term that fails a check; such a
+//! term would count as running out of memory.
 ghost use Rattle.std.specs.Prelude.{◌≡◌, ◌↔◌, ℤ, pos, IsTrue, ◌+ℤ◌, ◌*ℤ◌, OnOk, IfOk, IfSome};
 ghost use Rattle.cs_ranges.specs.Affine.{affine};
 ghost use Rattle.cs_ranges.specs.Interval.{IsInside, IsProper};
@@ -25,8 +26,8 @@ const LEAST_INTEGER: i128 = -0x8000_0000_0000_0000;
 
 const GREATEST_INTEGER: i128 = 0xffff_ffff_ffff_ffff;
 
-/// An operand, which is a term with integers of C as values, in the form that arithmetic asks for: one whose symbol has one number left is
-/// a constant.
+/// Returns an operand, a term with integers of C as values, in the form that arithmetic requires: a constant
+/// if its symbol can only have one number.
 pub(crate) fn ready(constraints: &Constraints, term: Lin) -> Result<Lin, AllocError>
     ensures ready { IfOk result (IsReadyOperand constraints.now) }
     ensures form { IfOk result (IsFormOf constraints.now term) }
@@ -37,7 +38,8 @@ pub(crate) fn ready(constraints: &Constraints, term: Lin) -> Result<Lin, AllocEr
     Ok(operand)
 }
 
-/// A part of an order test in the form that arithmetic asks for: one whose symbol has one number left is a constant.
+/// Returns a part of an order test in the form that arithmetic requires: a constant if its symbol can only
+/// have one number.
 pub(crate) fn ready_part(constraints: &Constraints, term: Lin) -> Result<Lin, AllocError>
     ensures term { IfOk result (IsTermBetween constraints.now LOWEST HIGHEST) }
     ensures several { IfOk result (IsSeveral constraints.now) }
@@ -49,7 +51,7 @@ pub(crate) fn ready_part(constraints: &Constraints, term: Lin) -> Result<Lin, Al
     Ok(part)
 }
 
-/// The values of a term are integers of C.
+/// Checks that the values of a term are integers of C.
 pub(crate) fn check_integers(constraints: &Constraints, term: Lin) -> Result<(), AllocError>
     ensures term { OnOk result (IsTerm term) }
     ensures integers { OnOk result (HasIntegers constraints.now term) }
@@ -57,14 +59,14 @@ pub(crate) fn check_integers(constraints: &Constraints, term: Lin) -> Result<(),
     check_between(constraints, term, LEAST_INTEGER, GREATEST_INTEGER)
 }
 
-/// The values of a term lie from -2^100 to 2^100.
+/// Checks that the values of a term are from -2^100 to 2^100.
 pub(crate) fn check_wide(constraints: &Constraints, term: Lin) -> Result<(), AllocError>
     ensures { OnOk result (IsTermBetween constraints.now LOWEST HIGHEST term) }
 {
     check_between(constraints, term, -WIDEST, WIDEST)
 }
 
-/// The values of a term lie in a type.
+/// Checks that the values of a term are in the range of a type.
 pub(crate) fn check_in_type(setting: &Setting, ty: IntType, term: Lin) -> Result<(), AllocError>
     ensures { OnOk result (IsTermInType setting.now.model setting.now.constraints.now ty term) }
 {
@@ -73,14 +75,14 @@ pub(crate) fn check_in_type(setting: &Setting, ty: IntType, term: Lin) -> Result
     check_between(setting.constraints, term, low, high)
 }
 
-/// The values of a term lie from -2^126 to 2^126, as those of sets do.
+/// Checks that the values of a term are from -2^126 to 2^126, as those of sets are.
 pub(crate) fn check_inside_values(constraints: &Constraints, term: Lin) -> Result<(), AllocError>
     ensures { OnOk result (IsTermInside constraints.now term) }
 {
     check_between(constraints, term, LEAST, GREATEST)
 }
 
-/// The values of a term, whose symbol is declared if it has one, lie between the bounds.
+/// Checks that the values of a term are within the bounds, and that its symbol, if it has one, is declared.
 pub(crate) fn check_between(
     constraints: &Constraints,
     term: Lin,
@@ -101,7 +103,7 @@ pub(crate) fn check_between(
     check_over(term, range, low, high)
 }
 
-// A constant lies between the bounds.
+// Checks that a constant is within the bounds.
 fn check_constant(term: Lin, low: i128, high: i128) -> Result<(), AllocError>
     ensures slope { OnOk result (term.slope ≡ pos 0) }
     ensures value { OnOk result (IsBetween low high term.value) }
@@ -113,7 +115,7 @@ fn check_constant(term: Lin, low: i128, high: i128) -> Result<(), AllocError>
     }
 }
 
-// The values of a term over the numbers of its symbol lie between the bounds: it rises or falls all along them.
+// Checks that the values of a term are within the bounds, at the ends of its symbol's numbers: the term is monotonic.
 fn check_over(term: Lin, range: &RangeSet, low: i128, high: i128) -> Result<(), AllocError>
     requires { IsTerm term }
     ensures { OnOk result ((x : ℤ) → IsTrue (contains range.now x)
@@ -132,7 +134,7 @@ fn check_over(term: Lin, range: &RangeSet, low: i128, high: i128) -> Result<(), 
     }
 }
 
-// The value of a term at a number of its symbol.
+// Returns the value of a term at a number of its symbol.
 fn value_at(term: Lin, number: i128) -> Option<i128>
     ensures { IfSome result (λ value.
         value ≡ affine term.slope term.at term.value number) }
@@ -149,7 +151,7 @@ fn is_between(low: i128, high: i128, number: i128) -> bool
     low <= number && number <= high
 }
 
-/// A number that a range can have.
+/// Checks that a set can contain a number.
 pub(crate) fn check_inside(number: i128) -> Result<(), AllocError>
     ensures { OnOk result (IsInside number) }
 {
@@ -160,7 +162,7 @@ pub(crate) fn check_inside(number: i128) -> Result<(), AllocError>
     }
 }
 
-// The sum of two numbers is one that a range can have.
+// Checks that a set can contain the sum of two numbers.
 fn check_sum(left: i128, right: i128) -> Result<(), AllocError>
     ensures { OnOk result (IsInside (left +ℤ right)) }
 {
@@ -170,7 +172,7 @@ fn check_sum(left: i128, right: i128) -> Result<(), AllocError>
     }
 }
 
-// The product of two numbers is one that a range can have.
+// Checks that a set can contain the product of two numbers.
 fn check_product(left: i128, right: i128) -> Result<(), AllocError>
     ensures { OnOk result (IsInside (left *ℤ right)) }
 {
@@ -180,7 +182,7 @@ fn check_product(left: i128, right: i128) -> Result<(), AllocError>
     }
 }
 
-/// Two terms can be added.
+/// Checks that two terms can be added.
 pub(crate) fn check_adds(left: Lin, right: Lin) -> Result<(), AllocError>
     requires left { IsTerm left }
     requires right { IsTerm right }
@@ -198,7 +200,7 @@ pub(crate) fn check_adds(left: Lin, right: Lin) -> Result<(), AllocError>
     }
 }
 
-// Two terms over one symbol can be added.
+// Checks that two terms over one symbol can be added.
 fn check_together(left: Lin, right: Lin) -> Result<(), AllocError>
     requires left { IsTerm left }
     requires right { IsTerm right }
@@ -224,7 +226,7 @@ fn have_one_symbol(left: Option<Sym>, right: Option<Sym>) -> bool
     }
 }
 
-/// A term can be scaled by a factor.
+/// Checks that a term can be scaled by a factor.
 pub(crate) fn check_scales(term: Lin, factor: i128) -> Result<(), AllocError>
     ensures { OnOk result (CanScale term factor) }
 {
@@ -234,7 +236,7 @@ pub(crate) fn check_scales(term: Lin, factor: i128) -> Result<(), AllocError>
     check_product(term.value, factor)
 }
 
-/// An integer of C.
+/// Checks that a number is an integer of C.
 pub(crate) fn check_integer(number: i128) -> Result<(), AllocError>
     ensures { OnOk result (IsIntegerOfC number) }
 {
@@ -245,7 +247,7 @@ pub(crate) fn check_integer(number: i128) -> Result<(), AllocError>
     }
 }
 
-/// An interval with numbers, which a range can have.
+/// Checks that an interval isn't empty, and that a set can contain its numbers.
 pub(crate) fn check_interval(numbers: Interval) -> Result<(), AllocError>
     ensures { OnOk result (IsProper numbers) }
 {
@@ -256,7 +258,7 @@ pub(crate) fn check_interval(numbers: Interval) -> Result<(), AllocError>
     }
 }
 
-/// The term with a number added to its values.
+/// Returns the term with a number added to its values.
 pub(crate) fn moved(term: Lin, by: i128) -> Result<Lin, AllocError>
     ensures { IfOk result (IsRaised term by) }
 {

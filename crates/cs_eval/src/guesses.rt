@@ -1,4 +1,4 @@
-//! What a guess is asked for, and the numbers that may be guessed.
+//! Operations that are guessed, and the numbers that may be guessed for them.
 ghost use Rattle.std.specs.Prelude.{◌≡◌, None, IfOk, IfSome};
 ghost use Rattle.cs_ranges.specs.Interval.{IsProper};
 ghost use Rattle.cs_eval.specs.Guesses.{HasNumbers, AreNumbers, AreOfBinary, AreOfType, AreRemainders};
@@ -26,7 +26,7 @@ pub(crate) struct Inexact {
 }
 
 impl Inexact {
-    /// An operation without a fact.
+    /// Makes an operation without a fact.
     pub fn new(asks: Asks, left: Lin, right: Lin) -> Inexact
         ensures { result ≡ record { asks = asks; left = left; right = right; fact = None } }
     {
@@ -38,7 +38,7 @@ impl Inexact {
         }
     }
 
-    /// What is recorded of its guess.
+    /// Returns what is recorded about the guess of this operation.
     pub fn guessed(&self, constraints: &Constraints) -> Guessed
         ensures { IsRecordOf constraints.now self.now result }
     {
@@ -54,7 +54,7 @@ impl Inexact {
         }
     }
 
-    /// The numbers that may be guessed.
+    /// Returns the numbers that may be guessed.
     pub fn numbers(&self, model: DataModel) -> Result<Interval, AllocError>
         ensures proper { IfOk result IsProper }
         ensures numbers { IfOk result (HasNumbers model self.now) }
@@ -64,7 +64,7 @@ impl Inexact {
         Ok(numbers)
     }
 
-    // The least and the greatest number that may be guessed.
+    // Returns the least and the greatest number that may be guessed.
     fn bounds(&self, model: DataModel) -> Option<Interval>
         ensures { IfSome result (AreNumbers model self.now.asks self.now.left self.now.right) }
     {
@@ -81,7 +81,7 @@ impl Inexact {
     }
 }
 
-// The numbers of a term's symbol, from the least to the greatest; 0 to 0 where there is none.
+// Returns the least and the greatest number of a term's symbol; both are 0 without a symbol.
 fn ends_of(constraints: &Constraints, term: Lin) -> Interval
     ensures { AreEndsOf constraints.now term.sym result }
 {
@@ -98,8 +98,8 @@ fn ends_of(constraints: &Constraints, term: Lin) -> Interval
     }
 }
 
-// The numbers that may be guessed for an operator of two integers: a remainder is nearer to 0 than its divisor, and a number that is masked
-// by one that isn't negative isn't above it.
+// Returns the numbers that may be guessed for an operator of two integers. A remainder is nearer to 0 than
+// its divisor, and the result of `&` isn't above a mask that isn't negative.
 fn numbers_of_binary(
     model: DataModel,
     op: BinOp,
@@ -122,7 +122,7 @@ fn numbers_of_binary(
     }
 }
 
-// The remainders of divisions by a number.
+// Returns the remainders of divisions by a number.
 fn remainders(ty: IntType, divisor: i128) -> Option<Interval>
     ensures { IfSome result (AreRemainders ty divisor) }
 {
@@ -143,7 +143,7 @@ fn remainders(ty: IntType, divisor: i128) -> Option<Interval>
     })
 }
 
-// The numbers of a type.
+// Returns the numbers of a type.
 fn numbers_of(model: DataModel, ty: IntType) -> Interval
     ensures { AreOfType model ty result }
 {

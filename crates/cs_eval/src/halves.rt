@@ -11,14 +11,14 @@ use cs_signs::by_sign;
 use cs_terms::Lin;
 use std::alloc::{AllocError, Global};
 
-/// The valuations under which a condition holds, and those under which it doesn't; none where there are none.
+/// The valuations under which a condition holds, and those under which it doesn't; `None` if there are none.
 #[derive(Drop)]
 pub(crate) struct Halves {
     pub holds: Option<Constraints>,
     pub fails: Option<Constraints>,
 }
 
-/// Splits constraints by whether the term compares so with 0.
+/// Splits constraints by a comparison of the term with 0.
 pub(crate) fn split_by_sign(
     alloc: Global,
     constraints: &Constraints,

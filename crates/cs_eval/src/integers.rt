@@ -24,7 +24,8 @@ use cs_terms::{Lin, Lin2, add, diff, product_pieces, scale};
 use cs_types::IntType;
 use std::alloc::AllocError;
 
-/// An operator of two integers. Sums and products with a constant are followed, and shifts to the left by one; all else is guessed.
+/// Applies an operator to two integers. Sums and differences over one symbol, products with a constant and
+/// left shifts by a constant are followed; everything else is guessed.
 pub(crate) fn binary(
     setting: &Setting,
     op: BinOp,
@@ -76,7 +77,7 @@ fn minus(setting: &Setting, ty: IntType, left: Lin, right: Lin) -> Result<Vec<Pi
     sum(setting, ty, exact, &inexact)
 }
 
-// A product, which is followed with a constant.
+// A product, which is followed if a factor is a constant.
 fn times(setting: &Setting, ty: IntType, left: Lin, right: Lin) -> Result<Vec<Piece>, AllocError>
     requires { IsBinary setting.now.constraints.now setting.now.guess.0 left right }
     ensures { IfOk result (λ pieces. AreRecordedAnswers setting.now.model
@@ -93,7 +94,7 @@ fn times(setting: &Setting, ty: IntType, left: Lin, right: Lin) -> Result<Vec<Pi
     wrap_guess(setting, &inexact)
 }
 
-// A shift to the left, which is followed by a constant: it is a product with a power of two.
+// A left shift, which is followed if the count is a constant: it is a product with a power of two.
 fn shifted(setting: &Setting, ty: IntType, left: Lin, right: Lin) -> Result<Vec<Piece>, AllocError>
     requires { IsBinary setting.now.constraints.now setting.now.guess.0 left right }
     ensures { IfOk result (λ pieces. AreRecordedAnswers setting.now.model
@@ -108,7 +109,7 @@ fn shifted(setting: &Setting, ty: IntType, left: Lin, right: Lin) -> Result<Vec<
     product(setting, ty, left, factor, &inexact)
 }
 
-// A remainder, which is guessed. A constant divisor, which lies in the type, bounds the guess.
+// A remainder, which is guessed. A constant divisor, which is in the type's range, bounds the guess.
 fn remainder(
     setting: &Setting,
     ty: IntType,
@@ -125,7 +126,7 @@ fn remainder(
     guessed(setting, BinOp::Rem, ty, left, right)
 }
 
-// The bits that both numbers have, which are guessed. A constant mask, which lies in the type, bounds the guess.
+// A bitwise AND, which is guessed. A constant mask, which is in the type's range, bounds the guess.
 fn masked(setting: &Setting, ty: IntType, left: Lin, right: Lin) -> Result<Vec<Piece>, AllocError>
     requires { IsBinary setting.now.constraints.now setting.now.guess.0 left right }
     ensures { IfOk result (λ pieces. AreRecordedAnswers setting.now.model
@@ -152,7 +153,7 @@ fn guessed(
     wrap_guess(setting, &inexact)
 }
 
-/// An operator of one integer, which is always followed.
+/// Applies an operator to one integer. It is always followed.
 pub(crate) fn unary(
     setting: &Setting,
     op: UnOp,
@@ -168,7 +169,7 @@ pub(crate) fn unary(
     converted(setting, ty, exact, None)
 }
 
-// The exact result of an operator of one integer, as a term.
+// Returns the exact result of an operator of one integer, as a term.
 fn exact_of_one(op: UnOp, term: Lin) -> Result<Lin, AllocError>
     requires { IsTerm term }
     ensures { IfOk result (IsExactOfOne op term) }
@@ -181,7 +182,7 @@ fn exact_of_one(op: UnOp, term: Lin) -> Result<Lin, AllocError>
     }
 }
 
-/// A conversion to a type.
+/// Converts a term to a type.
 pub(crate) fn conversion(
     setting: &Setting,
     ty: IntType,
@@ -198,7 +199,7 @@ pub(crate) fn conversion(
     converted(setting, ty, term, Some(&inexact))
 }
 
-/// The sum as a term, none where the terms have two symbols.
+/// Returns the sum as a term, or none if the terms have two symbols.
 pub(crate) fn added(left: Lin, right: Lin) -> Result<Option<Lin>, AllocError>
     requires left { IsTerm left }
     requires right { IsTerm right }
@@ -209,7 +210,7 @@ pub(crate) fn added(left: Lin, right: Lin) -> Result<Option<Lin>, AllocError>
     Ok(add(left, right))
 }
 
-/// The difference as a term, none where the terms have two symbols.
+/// Returns the difference as a term, or none if the terms have two symbols.
 pub(crate) fn difference(left: Lin, right: Lin) -> Result<Option<Lin>, AllocError>
     requires left { IsTerm left }
     requires right { IsTerm right }
@@ -223,7 +224,7 @@ pub(crate) fn difference(left: Lin, right: Lin) -> Result<Option<Lin>, AllocErro
     Ok(add(first, second))
 }
 
-// The two to the power of a count that shifts a number.
+// Returns two to the power of a shift count.
 fn power(count: i128) -> Result<i128, AllocError>
     ensures { IfOk result (λ factor. factor ≡ pos (operations.power count)) }
 {
@@ -234,7 +235,7 @@ fn power(count: i128) -> Result<i128, AllocError>
     }
 }
 
-// A sum, which is guessed where it is over two symbols.
+// A sum, which is guessed if it is over two symbols.
 fn sum(
     setting: &Setting,
     ty: IntType,

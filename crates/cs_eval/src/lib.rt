@@ -1,4 +1,4 @@
-//! Operations on terms: what they may show, and for which numbers of the symbols.
+//! Operations on terms: the labels that they may show, and for which numbers of the symbols.
 #![tactic(auto)]
 
 mod cases;

@@ -12,7 +12,8 @@ use cs_events::Operation;
 use cs_terms::Lin;
 use std::alloc::AllocError;
 
-/// The question with its operands in the form that arithmetic on terms asks for: an operand whose symbol has one number left is a constant.
+/// Returns the question with its operands in the form that arithmetic on terms requires: an operand whose
+/// symbol can only have one number is a constant.
 pub(crate) fn prepared(
     constraints: &Constraints,
     question: &Question,
@@ -53,7 +54,7 @@ pub(crate) fn prepared(
     }
 }
 
-// Both operands in that form.
+// Returns both operands in that form.
 fn both(constraints: &Constraints, left: Lin, right: Lin) -> Result<(Lin, Lin), AllocError>
     ensures ready { IfOk result (λ both. IsReadyOperand constraints.now both.0
         × IsReadyOperand constraints.now both.1) }
@@ -65,7 +66,7 @@ fn both(constraints: &Constraints, left: Lin, right: Lin) -> Result<(Lin, Lin), 
     Ok((left, right))
 }
 
-/// The operation of a question whose operands are constants.
+/// Returns the operation of a question whose operands are constants.
 pub(crate) fn constant_operation(question: &Question) -> Option<Operation>
     ensures { MatchOption result (¬ AreConstants question.now) (IsConstantOperation question.now) }
 {
@@ -99,7 +100,7 @@ pub(crate) fn constant_operation(question: &Question) -> Option<Operation>
     }
 }
 
-/// The number of a term that is a constant.
+/// Returns the number of a term that is a constant.
 pub(crate) fn number(term: Lin) -> Option<i128>
     ensures { result ≡ constant_of term }
 {
@@ -109,7 +110,7 @@ pub(crate) fn number(term: Lin) -> Option<i128>
     }
 }
 
-/// The term that is this number.
+/// Returns a number as a term.
 pub(crate) fn constant(number: i128) -> Lin
     ensures { result ≡ number_term number }
 {

@@ -1,4 +1,4 @@
-//! What an operation may show, and under which numbers of the symbols.
+//! The answers to a question.
 ghost use Rattle.std.specs.Prelude.{◌≡◌, None, IfOk};
 ghost use Rattle.cs_constraints.specs.Constraints.{set_of, AreInhabited};
 ghost use Rattle.cs_events.specs.Operations as operations;
@@ -27,8 +27,9 @@ use cs_types::DataModel;
 use cs_values::arithmetic::{Computed, compute, is_true};
 use std::alloc::{AllocError, Global};
 
-/// What the operation may show, a piece for each label, no two alike. A number that is guessed is that of the given symbol, which isn't
-/// declared yet. The values of terms are integers of C, those of the parts of an order test from -2^100 to 2^100.
+/// Returns a piece for each label that the operation may show; no two have the same label. The given symbol,
+/// which isn't declared yet, represents a guessed number. The values of terms are integers of C, those of the
+/// parts of an order test from -2^100 to 2^100.
 pub fn answers(
     alloc: Global,
     model: DataModel,
@@ -57,7 +58,7 @@ pub fn answers(
     }
 }
 
-// An operation on constants.
+// Returns the piece of an operation on constants.
 fn computed(setting: &Setting, operation: Operation) -> Result<Vec<Piece>, AllocError>
     ensures piece { IfOk result (λ pieces. pieces.items ≡ operation_pieces setting.now.model
         operation setting.now.constraints.now) }
@@ -75,7 +76,7 @@ fn computed(setting: &Setting, operation: Operation) -> Result<Vec<Piece>, Alloc
     )
 }
 
-// What an operation shows that isn't guessed.
+// Returns the label of an operation that isn't guessed.
 fn shown(operation: Operation, own: Computed) -> Label
     ensures { (model : DataModel) → IsOwn model operation own
         → result ≡ operations.shows model operation None }
@@ -93,7 +94,7 @@ fn shown(operation: Operation, own: Computed) -> Label
     }
 }
 
-// A question with prepared operands, not all of which are constants.
+// Answers a question with prepared operands, not all of which are constants.
 fn followed(setting: &Setting, question: Question) -> Result<Vec<Piece>, AllocError>
     requires ready { HasReadyOperands setting.now.constraints.now question }
     requires mixed { ¬ AreConstants question }

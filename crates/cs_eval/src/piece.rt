@@ -1,23 +1,23 @@
-//! One answer to a question.
+//! Pieces: parts of the valuations that fit a state.
 
 use cs_constraints::Constraints;
 use cs_events::Label;
 use cs_state::{Asks, Ends, Fact};
 use cs_terms::Lin;
 
-/// One thing that an operation may show: under the valuations that fit these constraints.
+/// A label that an operation may show, with the valuations under which it does.
 #[derive(Drop)]
 pub struct Piece {
     pub label: Label,
-    /// The valuations that are kept. Where a number was guessed, the guess symbol is declared there too.
+    /// The constraints that these valuations fit. If a number was guessed, they declare the guess symbol too.
     pub constraints: Constraints,
-    /// The number that leads on.
+    /// The number with which the operation continues.
     pub answer: Lin,
-    /// What was guessed, where the result isn't followed exactly.
+    /// The guess, if the result isn't followed exactly.
     pub guessed: Option<Guessed>,
 }
 
-/// What a guess is asked for.
+/// An operation that was guessed.
 #[derive(Clone, Copy)]
 pub struct Guessed {
     pub asks: Asks,
@@ -25,6 +25,6 @@ pub struct Guessed {
     pub left: Lin,
     pub right: Lin,
     pub ends: Ends,
-    /// There for a guessed comparison, and for an order test other than that of `calloc`.
+    /// Present for a guessed comparison, and for an order test other than that of `calloc`.
     pub fact: Option<Fact>,
 }

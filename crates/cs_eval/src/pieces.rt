@@ -1,4 +1,4 @@
-//! The ways to make a piece.
+//! Constructors of pieces.
 ghost use Rattle.std.specs.Prelude.{◌≡◌, ◌≤ℤ◌, [], ◌∷◌, ◌++◌, Some, IfOk, OnOk};
 ghost use Rattle.cs_ranges.specs.Interval.{IsInside};
 ghost use Rattle.cs_ranges.specs.RangeSet.{IsInhabited};
@@ -17,14 +17,14 @@ use cs_ranges::{Interval, RangeSet};
 use cs_terms::{Lin, Sym};
 use std::alloc::{AllocError, Global};
 
-/// A label that a piece without a guess shows, with the number that leads on.
+/// The label of a piece without a guess, and the number with which the operation continues.
 #[derive(Clone, Copy)]
 pub(crate) struct Shown {
     pub label: Label,
     pub answer: Lin,
 }
 
-/// A truth, and its number (C11 6.5.8, paragraph 6).
+/// Returns what a truth shows, with its number (C11 6.5.8, paragraph 6).
 pub(crate) fn truth(holds: bool) -> Shown
     ensures label { result.label ≡ Label.Truth holds }
     ensures answer { result.answer ≡ number_term (truth_number holds) }
@@ -35,7 +35,7 @@ pub(crate) fn truth(holds: bool) -> Shown
     }
 }
 
-/// The one piece of an operation that shows the same under every valuation.
+/// Returns the one piece of an operation that shows the same under every valuation.
 pub(crate) fn one_piece(setting: &Setting, shown: Shown) -> Result<Vec<Piece>, AllocError>
     ensures piece { IfOk result (λ pieces. pieces.items
         ≡ unguessed shown.label shown.answer setting.now.constraints.now ∷ []) }
@@ -47,7 +47,7 @@ pub(crate) fn one_piece(setting: &Setting, shown: Shown) -> Result<Vec<Piece>, A
     Ok(pieces)
 }
 
-/// A piece for each half that is there.
+/// Returns a piece for each half that isn't empty.
 pub(crate) fn halves_pieces(
     alloc: Global,
     halves: Halves,
@@ -65,7 +65,7 @@ pub(crate) fn halves_pieces(
     Ok(pieces)
 }
 
-/// Adds the piece of a half that is there.
+/// Adds the piece of a half, if this isn't empty.
 pub(crate) fn push_exact(
     pieces: &mut Vec<Piece>,
     shown: Shown,
@@ -80,7 +80,7 @@ pub(crate) fn push_exact(
     Ok(())
 }
 
-/// A piece without a guess.
+/// Makes a piece without a guess.
 pub(crate) fn exact_piece(constraints: Constraints, shown: Shown) -> Piece
     ensures { result ≡ unguessed shown.label shown.answer constraints }
 {
@@ -92,7 +92,7 @@ pub(crate) fn exact_piece(constraints: Constraints, shown: Shown) -> Piece
     }
 }
 
-/// The piece of a guess, which lies in an interval.
+/// Makes the piece of a guess from an interval.
 pub(crate) fn guessed_piece(
     setting: &Setting,
     mut constraints: Constraints,
@@ -116,7 +116,7 @@ pub(crate) fn guessed_piece(
     })
 }
 
-/// The constraints with these numbers alone for a symbol.
+/// Returns the constraints with only these numbers for a symbol.
 pub(crate) fn narrowed(
     constraints: &Constraints,
     sym: Sym,
@@ -132,7 +132,7 @@ pub(crate) fn narrowed(
     Ok(narrowed)
 }
 
-// The term that is the symbol.
+// Returns a symbol as a term.
 fn symbol_itself(sym: Sym) -> Lin
     ensures { result ≡ symbol_term sym }
 {

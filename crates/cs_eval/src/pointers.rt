@@ -21,7 +21,7 @@ use cs_terms::{Lin, scale};
 use cs_types::{DataModel, offset_bound};
 use std::alloc::AllocError;
 
-/// An offset moved by an amount of elements of so many bytes. The order tests before it keep it within the bounds of offsets.
+/// Moves an offset by a number of elements of a size. The preceding order tests keep it within the bounds of offsets.
 pub(crate) fn pointer_sum(
     setting: &Setting,
     offset: Lin,
@@ -48,7 +48,7 @@ pub(crate) fn pointer_sum(
     }
 }
 
-// The moved offset as a term, none where it is over two symbols.
+// Returns the moved offset as a term, or none if it is over two symbols.
 fn moved_offset(offset: Lin, amount: Lin, size: u64) -> Result<Option<Lin>, AllocError>
     requires offset { IsTerm offset }
     requires amount { IsTerm amount }
@@ -60,7 +60,7 @@ fn moved_offset(offset: Lin, amount: Lin, size: u64) -> Result<Option<Lin>, Allo
     added(offset, by)
 }
 
-// The values of a term lie within the bounds of offsets.
+// Checks that the values of a term are within the bounds of offsets.
 fn check_bounds(setting: &Setting, term: Lin) -> Result<(), AllocError>
     ensures { OnOk result (IsTermOfBounds setting.now.model setting.now.constraints.now term) }
 {
@@ -68,7 +68,7 @@ fn check_bounds(setting: &Setting, term: Lin) -> Result<(), AllocError>
     check_between(setting.constraints, term, -bound, bound)
 }
 
-/// How many elements of so many bytes lie between two offsets.
+/// Returns the number of elements of a size between two offsets.
 pub(crate) fn pointer_difference(
     setting: &Setting,
     left: Lin,
@@ -95,7 +95,7 @@ pub(crate) fn pointer_difference(
     }
 }
 
-// The elements as a term, where they divide the bytes between the offsets. None are there where elements have no bytes.
+// Returns the number of elements as a term, if their size divides the bytes between the offsets; 0 if the size is 0.
 fn elements_between(left: Lin, right: Lin, size: u64) -> Result<Option<Lin>, AllocError>
     requires left { IsTerm left }
     requires right { IsTerm right }
@@ -114,7 +114,7 @@ fn elements_between(left: Lin, right: Lin, size: u64) -> Result<Option<Lin>, All
     }
 }
 
-// A term divided by a number, which has to divide its value and its slope, and so each value of the term.
+// Divides a term by a number, which has to divide its value and its slope, and so each value of the term.
 fn divided(bytes: Lin, size: i128) -> Option<Lin>
     requires { pos 0 <ℤ size }
     ensures { MatchOption result (¬ (IsMultiple bytes.value size × IsMultiple bytes.slope size))
@@ -129,7 +129,7 @@ fn divided(bytes: Lin, size: i128) -> Option<Lin>
     })
 }
 
-// How many times a number is another one, where that divides it.
+// Returns the quotient of a number and a size that divides it.
 fn multiple(number: i128, size: i128) -> Option<i128>
     requires { pos 0 <ℤ size }
     ensures { MatchOption result (¬ IsMultiple number size) (λ n. number ≡ n *ℤ size) }
@@ -141,7 +141,7 @@ fn multiple(number: i128, size: i128) -> Option<i128>
     }
 }
 
-// The values of a term are so near to 0 that the difference of two lies in the type of differences.
+// Checks that the values of a term are so near to 0 that the difference of two is in the type of differences.
 fn check_offset(setting: &Setting, term: Lin) -> Result<(), AllocError>
     ensures { OnOk result (IsTermOfOffsets setting.now.model setting.now.constraints.now term) }
 {
@@ -149,7 +149,7 @@ fn check_offset(setting: &Setting, term: Lin) -> Result<(), AllocError>
     check_between(setting.constraints, term, -half, half)
 }
 
-// Half of the greatest difference.
+// Returns half of the greatest difference.
 fn half_difference(model: DataModel) -> i128
     ensures { result ≡ pos (half_difference_of model) }
 {

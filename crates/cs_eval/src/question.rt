@@ -1,4 +1,4 @@
-//! What an exploration asks of the terms of a state.
+//! Questions of the exploration about the terms of a state.
 
 use cs_ast::typed::operator::{BinOp, CmpOp, UnOp};
 use cs_terms::Lin;
@@ -15,31 +15,31 @@ pub enum Question {
     Convert(IntType, Lin),
     /// A comparison of two integers, or of two offsets in one object (C11 6.5.8, 6.5.9).
     Compare(CmpOp, Lin, Lin),
-    /// An order test: whether the sum of two parts isn't below 0. The first part is an offset's.
+    /// An order test: whether the sum of two parts isn't below 0. The first part is that of an offset.
     Order(Lin, Lin),
-    /// The order test of `calloc`: whether so many elements of so many bytes are few enough.
+    /// The order test of `calloc`: whether the product of a number of elements and their size is within the bound.
     Product(Lin, Lin),
-    /// An offset moved by an amount of elements of so many bytes (C11 6.5.6, paragraph 8).
+    /// An offset moved by a number of elements of a size (C11 6.5.6, paragraph 8).
     Sum(Lin, Lin, u64),
-    /// How many elements of so many bytes lie between two offsets (C11 6.5.6, paragraph 9).
+    /// The number of elements of a size between two offsets (C11 6.5.6, paragraph 9).
     Difference(Lin, Lin, u64),
-    /// Whether a number isn't 0, which shows in this way.
+    /// Whether a number isn't 0, shown as this kind of label.
     Test(Tested, Lin),
-    /// The function that is called shows.
+    /// The called function, which is shown.
     Callee(u32),
 }
 
-/// How it shows that a number isn't 0.
+/// The kind of label that shows whether a number isn't 0.
 #[derive(Clone, Copy, PartialEq, Eq, Debug)]
 pub enum Tested {
-    /// A pointer that was looked at: it isn't null.
+    /// A pointer whose target is determined: it isn't null.
     Look,
-    /// A test: its first way is taken.
+    /// A branch: its first edge is taken.
     Branch,
     /// A truth.
     Truth,
     /// The opposite truth, as of `!`.
     Not,
-    /// An allocation: it gives a block.
+    /// An allocation: it returns a block.
     Alloc,
 }

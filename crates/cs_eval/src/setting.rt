@@ -1,16 +1,16 @@
-//! What the answers to a question are made from.
+//! The context in which a question is answered.
 
 use cs_constraints::Constraints;
 use cs_terms::Sym;
 use cs_types::DataModel;
 use std::alloc::Global;
 
-/// What is known when a question is answered.
+/// The context in which a question is answered.
 #[derive(Clone, Copy)]
 pub(crate) struct Setting<'a> {
     pub alloc: Global,
     pub model: DataModel,
     pub constraints: &'a Constraints,
-    /// The symbol that a number is guessed with. It isn't declared yet.
+    /// The symbol that represents a guessed number. It isn't declared yet.
     pub guess: Sym,
 }

@@ -18,7 +18,7 @@ use cs_events::Label;
 use cs_terms::Lin;
 use std::alloc::AllocError;
 
-/// A test: what is shown is no number, so 0 leads on.
+/// Splits by whether a number isn't 0. The label isn't a number, so the answer is 0.
 pub(crate) fn test(setting: &Setting, tested: Tested, term: Lin) -> Result<Vec<Piece>, AllocError>
     requires { IsTermInside setting.now.constraints.now term }
     ensures { IfOk result (λ pieces. AreAnswers setting.now.model setting.now.constraints.now
@@ -30,7 +30,7 @@ pub(crate) fn test(setting: &Setting, tested: Tested, term: Lin) -> Result<Vec<P
     halves_pieces(setting.alloc, halves, yes, no)
 }
 
-// How the number compares with 0 where what is shown is true.
+// Returns the comparison with 0 that holds exactly if a test shows true.
 fn test_of(tested: Tested) -> CmpOp
     ensures { (x : ℤ) → compares result x (pos 0) ≡ holds_for tested x }
 {
@@ -43,7 +43,7 @@ fn test_of(tested: Tested) -> CmpOp
     }
 }
 
-// What a test shows.
+// Returns what a test shows.
 fn shown(tested: Tested, holds: bool) -> Shown
     ensures label { result.label ≡ label_of tested holds }
     ensures answer { result.answer ≡ number_term (pos 0) }

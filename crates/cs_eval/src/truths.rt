@@ -30,17 +30,17 @@ use cs_terms::{Lin, Lin2, diff, merged};
 use cs_types::product_bound;
 use std::alloc::AllocError;
 
-/// How far a truth is followed.
+/// How a truth is followed.
 enum Followed {
-    /// It holds exactly where the term compares so with 0.
+    /// It holds exactly if this comparison of the term with 0 holds.
     Where(CmpOp, Lin),
-    /// It holds, or it doesn't, whatever the numbers of the symbols are.
+    /// It always holds or never does, whatever the numbers of the symbols are.
     Always(bool),
-    /// Not exactly.
+    /// It isn't followed exactly.
     No,
 }
 
-/// A comparison of two numbers that aren't both constants.
+/// Compares two numbers that aren't both constants.
 pub(crate) fn comparison(
     setting: &Setting,
     op: CmpOp,
@@ -66,7 +66,7 @@ pub(crate) fn comparison(
     truth_split(setting, followed, &inexact)
 }
 
-/// An order test: whether the sum of two parts that aren't both constants isn't below 0.
+/// Tests whether the sum of two parts that aren't both constants isn't below 0 (an order test).
 pub(crate) fn order_test(
     setting: &Setting,
     first: Lin,
@@ -97,7 +97,7 @@ pub(crate) fn order_test(
     truth_split(setting, followed, &inexact)
 }
 
-/// The order test of `calloc`, of two numbers that aren't both constants.
+/// Does the order test of `calloc` for two numbers that aren't both constants.
 pub(crate) fn product_test(
     setting: &Setting,
     count: Lin,
@@ -117,7 +117,7 @@ pub(crate) fn product_test(
     truth_split(setting, followed, &inexact)
 }
 
-// A piece for each truth: exact where the truth is followed, else both with a guess.
+// Returns the pieces of a truth: exact ones if it is followed, else both with a guess.
 fn truth_split(
     setting: &Setting,
     followed: Followed,
@@ -141,7 +141,7 @@ fn truth_split(
     }
 }
 
-// A piece for each truth, with the guess of it.
+// Returns a piece for each truth, with its guess.
 fn guessed_truths(setting: &Setting, inexact: &Inexact) -> Result<Vec<Piece>, AllocError>
     ensures pieces { IfOk result (λ pieces.
         AreOfGuess setting.now.constraints.now setting.now.guess.0 pieces.items) }
@@ -167,7 +167,7 @@ fn guessed_truth(setting: &Setting, holds: bool, inexact: &Inexact) -> Result<Pi
     guessed_piece(setting, constraints, Label::Truth(holds), numbers, guessed)
 }
 
-// The number of a truth alone.
+// Returns the interval with only the number of a truth.
 fn only(holds: bool) -> Interval
     ensures low { result.low ≡ truth_number holds }
     ensures high { result.high ≡ truth_number holds }
@@ -179,7 +179,7 @@ fn only(holds: bool) -> Interval
     }
 }
 
-// How far it is followed whether a sum compares so with 0: over one symbol at most, or as far as the ends decide.
+// Returns how a comparison of a sum with 0 is followed: exactly over at most one symbol, else if the ends decide it.
 fn followed_by_sign(constraints: &Constraints, op: CmpOp, term: Lin2) -> Followed
     requires first { IsTermBetween constraints.now LOWEST HIGHEST term.first }
     requires second { IsTermBetween constraints.now LOWEST HIGHEST term.second }
@@ -198,7 +198,7 @@ fn followed_by_sign(constraints: &Constraints, op: CmpOp, term: Lin2) -> Followe
     }
 }
 
-// The values of a sum of two terms, from the least to the greatest.
+// Returns the least and the greatest value of a sum of two terms.
 fn ends_of_sum(constraints: &Constraints, term: Lin2) -> Interval
     requires first { IsTermBetween constraints.now LOWEST HIGHEST term.first }
     requires second { IsTermBetween constraints.now LOWEST HIGHEST term.second }
@@ -212,14 +212,14 @@ fn ends_of_sum(constraints: &Constraints, term: Lin2) -> Interval
     }
 }
 
-// The values of a term are integers of C that aren't below 0, as those of `size_t` are.
+// Checks that the values of a term are integers of C that aren't below 0, as those of `size_t` are.
 fn check_counts(constraints: &Constraints, term: Lin) -> Result<(), AllocError>
     ensures { OnOk result (IsTermOfCounts constraints.now term) }
 {
     check_between(constraints, term, 0, i128::from(u64::MAX))
 }
 
-// How far it is followed whether a product is at most the bound of one allocation.
+// Returns how it is followed whether a product is at most the bound of one allocation.
 fn followed_by_product(setting: &Setting, count: Lin, size: Lin) -> Result<Followed, AllocError>
     requires count { IsTermOfCounts setting.now.constraints.now count }
     requires size { IsTermOfCounts setting.now.constraints.now size }
@@ -237,7 +237,7 @@ fn followed_by_product(setting: &Setting, count: Lin, size: Lin) -> Result<Follo
     Ok(followed_by_ends(setting, count, size))
 }
 
-// A product whose factors are over symbols is followed as far as the ends decide.
+// A product whose factors are both over symbols is followed if the ends decide.
 fn followed_by_ends(setting: &Setting, count: Lin, size: Lin) -> Followed
     requires count { IsTermOfCounts setting.now.constraints.now count }
     requires size { IsTermOfCounts setting.now.constraints.now size }
@@ -255,7 +255,7 @@ fn followed_by_ends(setting: &Setting, count: Lin, size: Lin) -> Followed
     }
 }
 
-// A term times a constant factor is within the bound exactly where the term is at most their quotient.
+// A term times a constant factor is within the bound exactly if the term is at most the bound divided by the factor.
 fn followed_by_factor(setting: &Setting, term: Lin, factor: i128) -> Result<Followed, AllocError>
     requires { IsTermOfCounts setting.now.constraints.now term }
     ensures { IfOk result
@@ -271,7 +271,8 @@ fn followed_by_factor(setting: &Setting, term: Lin, factor: i128) -> Result<Foll
     Ok(Followed::Where(CmpOp::AtMost, above))
 }
 
-// Whether the product of two numbers that aren't below 0 is within the bound. One that 128 bits don't hold is past it.
+// Whether the product of two numbers that aren't below 0 is within the bound. A product that overflows 128
+// bits isn't.
 fn is_product_within(bound: i128, count: i128, size: i128) -> bool
     ensures { pos 0 ≤ℤ count → pos 0 ≤ℤ size
         → result ≡ int_le (count *ℤ size) bound }
@@ -282,7 +283,8 @@ fn is_product_within(bound: i128, count: i128, size: i128) -> bool
     }
 }
 
-// The values of a term, from the least to the greatest: a term rises or falls all along the numbers of its symbol.
+// Returns the least and the greatest value of a term, which are at the ends of its symbol's numbers: a term
+// is monotonic.
 fn values_of(constraints: &Constraints, term: Lin) -> Interval
     requires { IsTermBetween constraints.now LOWEST HIGHEST term }
     ensures ends { HasEnds constraints.now term result }
@@ -301,7 +303,7 @@ fn values_of(constraints: &Constraints, term: Lin) -> Interval
     values_over(term, range)
 }
 
-// The values of a term over the numbers of its symbol, from the least to the greatest.
+// Returns the least and the greatest value of a term over the numbers of its symbol.
 fn values_over(term: Lin, range: &RangeSet) -> Interval
     requires term { IsTerm term }
     requires inhabited { IsInhabited range.now }

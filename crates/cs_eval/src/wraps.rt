@@ -27,7 +27,7 @@ use cs_terms::{
 use cs_types::{DataModel, IntType, bytes, quotient, wrap};
 use std::alloc::AllocError;
 
-/// Converts an exact result to a type. It is over one symbol at most.
+/// Converts an exact result, which is over at most one symbol, to a type.
 pub(crate) fn converted(
     setting: &Setting,
     ty: IntType,
@@ -51,7 +51,8 @@ pub(crate) fn converted(
     wrap_split(setting, sym, parts, asked)
 }
 
-/// A piece for each wrap quotient of an exact result over a symbol. The numbers at which the quotient is far are one piece with a guess.
+/// Returns a piece for each wrap quotient of an exact result over a symbol. The numbers with a far quotient
+/// are one piece with a guess.
 pub(crate) fn wrap_split(
     setting: &Setting,
     sym: Sym,
@@ -75,7 +76,7 @@ pub(crate) fn wrap_split(
     Ok(pieces)
 }
 
-/// The one piece of an operation that is guessed as a whole.
+/// Returns the one piece of an operation that is guessed as a whole.
 pub(crate) fn wrap_guess(setting: &Setting, inexact: &Inexact) -> Result<Vec<Piece>, AllocError>
     ensures { IfOk result (λ pieces. IsWholeGuess setting.now.model setting.now.constraints.now
         setting.now.guess.0 inexact.now pieces.items) }
@@ -87,7 +88,7 @@ pub(crate) fn wrap_guess(setting: &Setting, inexact: &Inexact) -> Result<Vec<Pie
     Ok(pieces)
 }
 
-// The piece of a guess under constraints.
+// Returns the piece of a guess under constraints.
 fn guess_of(
     setting: &Setting,
     constraints: Constraints,
@@ -103,7 +104,7 @@ fn guess_of(
     guessed_piece(setting, constraints, label, numbers, guessed)
 }
 
-/// A result that lies in its type.
+/// Returns what a result in the range of its type shows.
 pub(crate) fn unwrapped(answer: Lin) -> Shown
     ensures label { result.label ≡ Label.Wrap Wrap.Same }
     ensures answer { result.answer ≡ answer }
@@ -114,7 +115,7 @@ pub(crate) fn unwrapped(answer: Lin) -> Shown
     }
 }
 
-// What a wrap quotient shows.
+// Returns what a wrap quotient shows.
 fn wrap_of(quotient: i128) -> Wrap
     ensures { result ≡ operations.wrap_of quotient }
 {
@@ -126,8 +127,8 @@ fn wrap_of(quotient: i128) -> Wrap
     }
 }
 
-// A number converted to a type. One with a far quotient is guessed where a guess is asked for, as where the terms of a sum are over a symbol
-// that their sum isn't over.
+// Converts a number to a type. With a far quotient it is guessed, if there is an operation to guess: its
+// operands may have a symbol that their sum doesn't have.
 fn constant_converted(
     setting: &Setting,
     ty: IntType,
@@ -145,7 +146,7 @@ fn constant_converted(
     }
 }
 
-// A number converted to a type, which is guessed where its quotient is far.
+// Converts a number to a type. With a far quotient it is guessed.
 fn near_or_guessed(
     setting: &Setting,
     ty: IntType,
@@ -163,7 +164,7 @@ fn near_or_guessed(
     constant_piece(setting, ty, number)
 }
 
-// The one piece of a number converted to a type.
+// Returns the one piece of a number converted to a type.
 fn constant_piece(setting: &Setting, ty: IntType, number: i128) -> Result<Vec<Piece>, AllocError>
     requires { IsInside number }
     ensures piece { IfOk result (λ pieces. pieces.items
@@ -180,14 +181,14 @@ fn constant_piece(setting: &Setting, ty: IntType, number: i128) -> Result<Vec<Pi
     )
 }
 
-// A wrap quotient other than -1, 0 and 1.
+// Whether a wrap quotient isn't -1, 0 or 1.
 fn is_far(quotient: i128) -> bool
     ensures { IsTrue result ↔ IsFar quotient }
 {
     quotient != -1 && quotient != 0 && quotient != 1
 }
 
-// The numbers of a symbol by the wrap quotient of an exact result over it.
+// Returns the numbers of a symbol by the wrap quotient of an exact result over it.
 fn converted_parts(
     setting: &Setting,
     ty: IntType,
@@ -215,7 +216,7 @@ fn converted_parts(
     })
 }
 
-// The term with a number taken from its values.
+// Returns the term with a number subtracted from its values.
 fn moved_back(term: Lin, by: i128) -> Result<Lin, AllocError>
     ensures { IfOk result (IsRaised term (neg_ℤ by)) }
 {
@@ -223,7 +224,7 @@ fn moved_back(term: Lin, by: i128) -> Result<Lin, AllocError>
     Ok(Lin { value, ..term })
 }
 
-// Some numbers of a symbol, with the wrapped result there; none where there are no numbers.
+// Returns some numbers of a symbol with the wrapped result for them, or none if there are no numbers.
 fn part(range: RangeSet, product: Lin) -> Option<Part>
     ensures { MatchOption result (IsEmpty range)
         (λ part. (part.range ≡ range) × (part.product ≡ product) × IsInhabited range) }
@@ -235,7 +236,7 @@ fn part(range: RangeSet, product: Lin) -> Option<Part>
     }
 }
 
-// How many numbers a type has.
+// Returns how many numbers a type has.
 fn modulus(model: DataModel, ty: IntType) -> i128
     ensures { result ≡ pos (modulus_of model ty) }
 {
@@ -247,7 +248,7 @@ fn modulus(model: DataModel, ty: IntType) -> i128
     }
 }
 
-// The piece of one wrap quotient.
+// Adds the piece of one wrap quotient, if it has numbers.
 fn push_part(
     setting: &Setting,
     pieces: &mut Vec<Piece>,
@@ -275,7 +276,8 @@ fn push_part(
     Ok(())
 }
 
-// The piece of the far wrap quotients. An operation that none is asked for has no such number: it isn't dropped, but treated as want of memory.
+// Adds the piece of the far wrap quotients. Without an operation to guess there are no such numbers; if there
+// were, they aren't dropped, but treated as running out of memory.
 fn push_far(
     setting: &Setting,
     pieces: &mut Vec<Piece>,

@@ -1,4 +1,4 @@
--- Lists of words that are kept in runs: what a key is after a write, its digest, and whether two of them have the same bytes.
+-- Lists of words that are kept in runs: a key after a write, its digest, and whether two of them have the same bytes.
 use Rattle.std.proofs.Common.{◌≡◌, ℕ, ◌-◌, ◌≤◌, Bool, true, false, List, [], ◌∷◌, ◌++◌, length, take, drop, refl, sym, ap}
 use Rattle.std.proofs.Common.{◌∙◌, nat_eq, append_assoc, true≢false}
 use Rattle.std.specs.Bool.{one_answer}

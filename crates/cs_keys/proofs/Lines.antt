@@ -1,4 +1,4 @@
--- Terms with one live part are one function of one symbol: for `terms_have_values`.
+-- Terms with the same live part are the same function of the same symbol: for `terms_have_values`.
 use Rattle.std.proofs.Common.{◌≡◌, ℤ, pos, ◌+ℤ◌, ◌-ℤ◌, ◌*ℤ◌, Bool, true, false, cond, sym, ap, ◌∙◌, refl, arith}
 use Rattle.std.specs.Prelude.{Option, None, Some, option_map}
 use Rattle.std.proofs.lemmas.Int.{ints}

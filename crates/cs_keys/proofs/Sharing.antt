@@ -1,4 +1,4 @@
--- What a region has listed are the words that a key has for its bindings, and the symbols whose numbers come after them: for `bindings`.
+-- The listing of a region is the words that a key has for its bindings, and the symbols whose numbers follow them: for `bindings`.
 use Rattle.std.proofs.Common.{◌≡◌, ℕ, Bool, true, false, cond, List, [], ◌∷◌, ◌++◌, map, refl, sym, ap, ◌∙◌}
 use Rattle.std.specs.Prelude.{fold, Option, None, Some, option_map}
 use Rattle.std.specs.Option.{option_to_list}

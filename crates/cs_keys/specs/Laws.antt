@@ -1,4 +1,4 @@
--- What keys are for: they are equal exactly where live parts are, and equal live parts have terms with equal values.
+-- The purpose of keys: they are equal exactly if live parts are, and equal live parts have terms with equal values.
 use Rattle.std.specs.Prelude.{◌≡◌, ◌↔◌, option_map}
 use Rattle.cs_terms.specs.declared.term.Lin.{Lin}
 use Rattle.cs_terms.specs.Term.{Valuation, value_of}
@@ -7,7 +7,7 @@ use Rattle.cs_state.specs.declared.state.State.{State}
 use Rattle.cs_keys.specs.Live.{live_symbol, live_term, live_part}
 use Rattle.cs_keys.specs.Words.{words_of}
 
--- the words of two states are the same exactly where their live parts are
+-- the words of two states are the same exactly if their live parts are
 abbrev pub KeysAreExact : Type 0
 KeysAreExact = (one other : State) → (words_of (live_part one) ≡ words_of (live_part other)) ↔ (live_part one ≡ live_part other)
 

@@ -1,5 +1,5 @@
--- The live part of a state: all that it says of the runs that come to its position, but for its guesses and for the numbers of symbols that
--- nothing mentions. Each symbol that is mentioned stands there with the numbers that it may have.
+-- The live part of a state: all that it states about the runs that reach its position, except its guesses and the numbers of symbols that
+-- nothing mentions. Each mentioned symbol is kept with the numbers that it may have.
 use Rattle.std.specs.Prelude.{ℕ, ℤ, List, map, Option, None, Some, option_map, if◌then◌else◌}
 use Rattle.std.specs.FinMap as finite
 use Rattle.cs_types.specs.declared.data_model.DataModel.{DataModel}
@@ -68,7 +68,7 @@ pub record LiveFrame : Type 0 where
   pub temporaries : List LiveTemporary
   pub visits : List ℕ
 
--- what a base region holds
+-- the contents of a base region
 pub record LiveRegion : Type 0 where
   pub base : ℕ
   pub fill : Fill
@@ -165,7 +165,7 @@ module _ (sets : Sets) where
   abbrev pub live_read : ReadCell → LiveRead
   live_read cell = record { base = cell.base; offset = cell.offset; symbol = live_symbol cell.sym }
 
-  -- what a store holds, in order of base region and offset
+  -- the contents of a store, in order of base region and offset
   abbrev pub live_regions : Regions → List LiveRegion
   live_regions store = map live_region (regions_of store)
 

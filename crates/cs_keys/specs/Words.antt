@@ -1,5 +1,5 @@
--- Live parts as words. Each part is written after the parts that it is made of: the count of a list after its elements, the number of a
--- form after what it holds. So the words can be read from the last one, and no two live parts have the same.
+-- Live parts as words. Each part is written after its own parts: the length of a list after its elements, the number of a variant after its
+-- fields. So the words can be read from the last one, and no two live parts have the same words.
 use Rattle.std.specs.Prelude.{ℕ, List, [], Option, None, Some}
 use Rattle.std.specs.List.{flat_map}
 use Rattle.std.specs.Option.{option_to_list}
@@ -96,11 +96,11 @@ numbers_of (At base offset) = numbers_of_term offset
 numbers_of (Start base offset) = None
 numbers_of Unset = None
 
--- those of all symbols that bindings mention, in order
+-- the numbers of all symbols that bindings mention, in order
 abbrev pub all_numbers : List (ℕ × LiveValue) → List (Option (List Interval))
 all_numbers bindings = flat_map (λ binding. option_to_list (numbers_of binding.1)) bindings
 
--- what was bound in a region, and then the numbers of the symbols that it mentions: the first part is the same whatever these are
+-- the bindings of a region, followed by the numbers of the symbols that they mention: the first part doesn't depend on these
 abbrev pub with_bindings : List ℕ → List (ℕ × LiveValue) → List ℕ
 with_bindings words bindings = with_list with_set (with_list with_plain_binding words bindings) (all_numbers bindings)
 
@@ -128,7 +128,7 @@ abbrev pub with_counters : List ℕ → Counters → List ℕ
 with_counters words counters =
     with_word (with_word (with_word (with_word words counters.frames) counters.allocations) counters.calls) counters.events
 
--- where the run stands, what memory holds, and what was counted
+-- the position of the run, the contents of memory, and the counters
 abbrev pub with_position : List ℕ → LivePart → List ℕ
 with_position words live =
     with_returned (with_list with_term (with_list with_frame (with_frame words live.frame) live.callers) live.answers) live.returned

@@ -1,4 +1,4 @@
-//! Whether lists of words that are kept in runs have the same bytes, however they are divided.
+//! Whether lists of words that are kept in runs have the same bytes, however they are divided into runs.
 ghost use Rattle.std.specs.Prelude.{◌≡◌, []};
 ghost use Rattle.std.specs.Prelude.{nat_eq};
 ghost use Rattle.std.specs.Cmp.Lexicographic.{pointwise};
@@ -6,7 +6,7 @@ ghost use Rattle.cs_keys.specs.Runs.{bytes_left};
 
 use cs_word_lists::SharedWords;
 
-/// Bytes that are still to be compared.
+/// The bytes that remain to be compared.
 #[derive(Drop)]
 pub(crate) struct Left<'a> {
     pub run: &'a [u8],
@@ -15,7 +15,7 @@ pub(crate) struct Left<'a> {
 }
 
 impl<'a> Left<'a> {
-    // Goes on to the next bytes, where those of a run are done.
+    // Advances to the next bytes, if those of the current run are used up.
     fn go_on(&mut self)
         ensures same { bytes_left self.new ≡ bytes_left self.old }
         ensures done { self.new.run.now ≡ [] → bytes_left self.new ≡ [] }
@@ -34,7 +34,7 @@ impl<'a> Left<'a> {
     }
 }
 
-/// Whether the same bytes are left.
+/// Whether the same bytes remain.
 pub(crate) fn are_same(mut one: Left<'_>, mut other: Left<'_>) -> bool
     ensures { result ≡ pointwise nat_eq (bytes_left one.entry) (bytes_left other.entry) }
 {

@@ -55,7 +55,7 @@ impl Key {
         self.word(counts.len() as u64)
     }
 
-    /// A frame.
+    /// Writes a frame.
     pub(crate) fn frame(
         &mut self,
         constraints: &Constraints,
@@ -72,7 +72,7 @@ impl Key {
         self.counts(frame.visits.as_slice())
     }
 
-    /// The frames that wait, the nearest first.
+    /// Writes the callers, the nearest first.
     pub(crate) fn callers(
         &mut self,
         constraints: &Constraints,

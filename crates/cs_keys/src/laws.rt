@@ -1,7 +1,7 @@
 //! Laws of keys.
 ghost use Rattle.cs_keys.specs.Laws.{KeysAreExact, TermsHaveValues};
 
-/// The keys of two states are equal exactly where the live parts of the states are.
+/// The keys of two states are equal exactly if the live parts of the states are.
 pub fn keys_are_exact()
     ensures { KeysAreExact }
 {}

@@ -1,4 +1,5 @@
-//! Keys of states: two states have equal keys exactly where their live parts are equal, so that an exploration goes on from one of them.
+//! Keys of states: two states have equal keys exactly if their live parts are equal, so that an exploration
+//! continues from only one of them.
 #![tactic(auto)]
 
 mod compared;

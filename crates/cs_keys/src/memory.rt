@@ -1,4 +1,4 @@
-//! What memory holds, in words.
+//! The contents of memory in words.
 ghost use Rattle.std.specs.Prelude.{◌≡◌, ℕ, List, map, OnOk};
 ghost use Rattle.cs_store.specs.declared.value.Value.{Value};
 ghost use Rattle.cs_store.specs.Contents.{bindings_of};
@@ -32,7 +32,7 @@ impl Key {
         }
     }
 
-    // What was bound in a region.
+    // Writes the direct bindings of a region.
     fn bindings(&mut self, constraints: &Constraints, region: &Region) -> Result<(), AllocError>
         ensures { OnOk result
             (self.new ≡ with_bindings self.old
@@ -45,7 +45,7 @@ impl Key {
         self.listing(constraints, &listing)
     }
 
-    // The words of a listing, and then the numbers of the symbols that it mentions.
+    // Writes the words of a listing, and then the numbers of the symbols that it mentions.
     fn listing(&mut self, constraints: &Constraints, listing: &Listing) -> Result<(), AllocError>
         ensures { OnOk result ((bindings : List (ℕ × Value)) → listing.now ≡ listing_of bindings
             → self.new ≡ with_bindings self.old (map (live_binding constraints.now) bindings)) }
@@ -68,7 +68,7 @@ impl Key {
         self.bindings(constraints, region)
     }
 
-    /// A store: the base regions that hold something.
+    /// Writes a store: the base regions that hold something.
     pub(crate) fn store(
         &mut self,
         constraints: &Constraints,
@@ -112,7 +112,7 @@ impl Key {
         self.word(block.made_by)
     }
 
-    /// The start blocks and heap blocks.
+    /// Writes the start blocks and heap blocks.
     pub(crate) fn blocks(
         &mut self,
         constraints: &Constraints,
@@ -129,7 +129,7 @@ impl Key {
         self.word(count)
     }
 
-    /// The cells that were read from inputs.
+    /// Writes the cells that were read from inputs.
     pub(crate) fn read(
         &mut self,
         constraints: &Constraints,

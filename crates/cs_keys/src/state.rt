@@ -45,7 +45,7 @@ impl Key {
         self.word(1)
     }
 
-    // Where a run stands.
+    // Writes the position of a run: frames, answers and result.
     fn position(&mut self, state: &State) -> Result<(), AllocError>
         ensures { OnOk result (self.new ≡ with_position self.old (live_part state.now)) }
     {
@@ -55,7 +55,7 @@ impl Key {
         self.returned(&state.constraints, &state.result)
     }
 
-    // What memory holds.
+    // Writes the contents of memory.
     fn memory(&mut self, state: &State) -> Result<(), AllocError>
         ensures { OnOk result (self.new ≡ with_memory self.old (live_part state.now)) }
     {
@@ -64,7 +64,7 @@ impl Key {
         self.read(&state.constraints, &state.read)
     }
 
-    // What the run has counted, and how the program is understood.
+    // Writes the data model, the counters and the phase.
     fn counted(&mut self, state: &State) -> Result<(), AllocError>
         ensures { OnOk result (self.new ≡ with_counted self.old (live_part state.now)) }
     {
@@ -74,7 +74,7 @@ impl Key {
     }
 }
 
-/// The key of a state's live part.
+/// Returns the key of a state: the words of its live part.
 pub fn key(alloc: Global, state: &State) -> Result<Key, AllocError>
     ensures { IfOk result (λ key. key ≡ words_of (live_part state.now)) }
 {

@@ -1,4 +1,4 @@
-//! Terms and values in words, each symbol with the numbers that it may have.
+//! Terms and values in words; each symbol is written with the numbers that it may have.
 ghost use Rattle.std.specs.Prelude.{◌≡◌, map, OnOk, Some};
 ghost use Rattle.cs_constraints.specs.Constraints.{set_of};
 ghost use Rattle.cs_keys.specs.Live.{live_symbol, far_line, live_over, live_term, live_value};
@@ -12,7 +12,7 @@ use cs_terms::{Lin, Sym};
 use std::alloc::AllocError;
 
 impl Key {
-    /// The numbers of a symbol, where it is declared.
+    /// Writes the numbers of a symbol, or 0 if it isn't declared.
     pub(crate) fn numbers(&mut self, constraints: &Constraints, sym: Sym) -> Result<(), AllocError>
         ensures { OnOk result (self.new ≡ with_set self.old (set_of constraints.now sym.0)) }
     {
@@ -22,7 +22,7 @@ impl Key {
         }
     }
 
-    /// The numbers of symbols in order, and how many symbols there are.
+    /// Writes the numbers of symbols in order, and the number of symbols.
     pub(crate) fn all_numbers(
         &mut self,
         constraints: &Constraints,
@@ -38,7 +38,7 @@ impl Key {
         self.word(symbols.len() as u64)
     }
 
-    /// A symbol with its numbers.
+    /// Writes a symbol with its numbers.
     pub(crate) fn symbol(&mut self, constraints: &Constraints, sym: Sym) -> Result<(), AllocError>
         ensures { OnOk result
             (self.new ≡ with_symbol self.old (live_symbol constraints.now sym)) }
@@ -47,7 +47,7 @@ impl Key {
         self.word(sym.0)
     }
 
-    // A function of a symbol as a term has it.
+    // Writes a function of a symbol as its term has it.
     fn far(&mut self, constraints: &Constraints, sym: Sym, term: &Lin) -> Result<(), AllocError>
         ensures { OnOk result
             (self.new ≡ with_far_line self.old (far_line constraints.now sym term.now)) }
@@ -58,7 +58,7 @@ impl Key {
         self.symbol(constraints, sym)
     }
 
-    // A function of a symbol, by its value at 0 if that can be computed in 128 bits.
+    // Writes a function of a symbol, with its value at 0 if that can be computed in 128 bits.
     fn over(&mut self, constraints: &Constraints, sym: Sym, term: &Lin) -> Result<(), AllocError>
         ensures { OnOk result
             (self.new ≡ with_term self.old (live_over constraints.now (Some sym) term.now)) }
@@ -73,7 +73,7 @@ impl Key {
         self.word(1)
     }
 
-    /// A term.
+    /// Writes a term.
     pub(crate) fn term(&mut self, constraints: &Constraints, term: &Lin) -> Result<(), AllocError>
         ensures { OnOk result
             (self.new ≡ with_term self.old (live_term constraints.now term.now)) }
@@ -85,7 +85,7 @@ impl Key {
         self.word(0)
     }
 
-    /// Terms in order.
+    /// Writes terms in order.
     pub(crate) fn terms(
         &mut self,
         constraints: &Constraints,
@@ -101,7 +101,7 @@ impl Key {
         self.word(terms.len() as u64)
     }
 
-    /// A value.
+    /// Writes a value.
     pub(crate) fn value(
         &mut self,
         constraints: &Constraints,
@@ -130,7 +130,7 @@ impl Key {
         }
     }
 
-    /// Values in order.
+    /// Writes values in order.
     pub(crate) fn values(
         &mut self,
         constraints: &Constraints,

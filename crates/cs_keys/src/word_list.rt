@@ -17,17 +17,17 @@ use std::hash::{Hash, Hasher};
 use std::marker::Model;
 use std::mem;
 
-// Memory for the bytes of most keys.
+// Enough bytes for the words of most keys.
 const BYTES: usize = 256;
 
-// So many bytes are shared rather than copied.
+// From this number of bytes on, words are shared rather than copied.
 const MANY: usize = 128;
 
-/// The words of the live part of a state, each part after the parts that it is made of: they can be read from the last one. A contract
-/// sees a list.
+/// The words of the live part of a state, each part after its own parts, so that they can be read from the
+/// last word. A contract sees a list.
 ///
-/// The words of a large table that many states share are shared between their keys too: a key is a list of runs of words, and the words
-/// after the last run.
+/// The words of a large region that many states share are shared between their keys too: a key is a list of
+/// runs of words, and the words after the last run.
 #[derive(Drop)]
 pub struct Key {
     runs: Vec<SharedWords>,
@@ -44,7 +44,7 @@ impl Model for Key {
 }
 
 impl Key {
-    /// No words.
+    /// Returns a key without words.
     pub(crate) fn new(alloc: Global) -> Result<Key, AllocError>
         ensures { IfOk result (λ key. key ≡ []) }
     {
@@ -54,12 +54,12 @@ impl Key {
         })
     }
 
-    /// Where the memory of a key comes from.
+    /// Returns the allocator of the key.
     pub(crate) fn alloc(&self) -> Global {
         *self.runs.allocator()
     }
 
-    /// One more word.
+    /// Appends a word.
     #[inline]
     pub(crate) fn word(&mut self, word: u64) -> Result<(), AllocError>
         ensures ok { OnOk result (self.new ≡ self.old ++ word ∷ []) }
@@ -69,7 +69,7 @@ impl Key {
         Ok(())
     }
 
-    /// An integer.
+    /// Appends an integer.
     pub(crate) fn integer(&mut self, number: i128) -> Result<(), AllocError>
         ensures { OnOk result (self.new ≡ with_integer self.old number) }
     {
@@ -77,7 +77,7 @@ impl Key {
         Ok(())
     }
 
-    /// The words of another list.
+    /// Appends the words of another list.
     pub(crate) fn append(&mut self, words: &Words) -> Result<(), AllocError>
         ensures { OnOk result (self.new ≡ self.old ++ words.now) }
     {
@@ -85,7 +85,7 @@ impl Key {
         Ok(())
     }
 
-    /// Words that others have too: many of them are shared, and few copied.
+    /// Appends words that other keys have too: many are shared, few are copied.
     pub(crate) fn part(&mut self, words: &SharedWords) -> Result<(), AllocError>
         ensures { OnOk result (self.new ≡ self.old ++ words.now) }
     {
@@ -96,7 +96,7 @@ impl Key {
         }
     }
 
-    /// Words that others have too.
+    /// Appends words that other keys have too, as a shared run.
     pub(crate) fn shared(&mut self, words: &SharedWords) -> Result<(), AllocError>
         ensures { OnOk result (self.new ≡ self.old ++ words.now) }
     {
@@ -107,14 +107,14 @@ impl Key {
         Ok(())
     }
 
-    /// A number that equal keys have in common, and few others.
+    /// Returns a hash: equal keys have the same one, other keys rarely.
     pub fn digest(&self) -> u64
         ensures { result ≡ digest_of self.now }
     {
         self.tail.digest_after(digest_of_runs(self.runs.as_slice()))
     }
 
-    // All bytes.
+    // Returns all bytes.
     fn left(&self) -> Left<'_>
         ensures { bytes_left result ≡ bytes_of self.now }
     {
@@ -150,7 +150,7 @@ impl Hash for Key {
     }
 }
 
-// The digest of the words of all runs.
+// Returns the digest of the words of all runs.
 fn digest_of_runs(runs: &[SharedWords]) -> u64
     ensures { result ≡ digest_of (concat runs.now) }
 {

@@ -1,4 +1,4 @@
--- What a look-up, an insertion and a removal find at a branch, by how the key compares. Serves `get`, `inserted` and `removed` of the tree.
+-- What a look-up, an insertion and a removal find at a branch, depending on how the key compares: for `get`, `inserted` and `removed` of the tree.
 use Rattle.std.proofs.Common.{◌≡◌, ℕ, ◌∷◌, ◌++◌, sym, rules}
 use Rattle.std.specs.Prelude.{Some, not}
 use Rattle.std.specs.declared.cmp.Ordering.TheVariants.{Less, Equal, Greater}

@@ -1,4 +1,4 @@
--- The map of a tree's entries, after each change of the entries. Serves the calls of `PMap`.
+-- The map of a tree's entries, after each change of the entries: for the calls of `PMap`.
 use Rattle.std.proofs.Common.{◌≡◌, ℕ, Bool, true, false, cond, not, [], length, refl, sym, ap, ◌∙◌}
 use Rattle.std.specs.Prelude.{Option, None, Some, is_some}
 use Rattle.std.specs.Borrow.{Bor}

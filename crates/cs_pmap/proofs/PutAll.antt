@@ -1,5 +1,4 @@
--- Entries put among those of a tree, and where a key divides a list in ascending order. Serves `merged`, `with_each`, `built` and
--- `split_around`.
+-- Entries inserted among those of a tree, and where a key divides a list in ascending order: for `merged`, `with_each`, `built` and `split_around`.
 use Rattle.std.proofs.Common.{◌≡◌, ℕ, ◌+◌, ◌<◌, ◌≤◌, arith, Bool, true, false, ◌&&◌, List, [], ◌∷◌, ◌++◌, length, take, drop, get_or}
 use Rattle.std.proofs.Common.{inl, inr, refl, sym, ap, subst, ◌∙◌, append_assoc}
 use Rattle.std.proofs.lemmas.List.{append-nil, take-append-drop, take_more, drop_more, drop_all}

@@ -1,4 +1,4 @@
--- The entries around a rotation. Serves `rotated_right` and `rotated_left`.
+-- The entries around a rotation: for `rotated_right` and `rotated_left`.
 use Rattle.std.proofs.Common.{◌≡◌, ℕ, ◌∷◌, ◌++◌, subst, append_assoc}
 use Rattle.cs_pmap.specs.Keys.{EntryList, key_cmp}
 use Rattle.cs_pmap.proofs.AtBranch.{key_cmp_total}

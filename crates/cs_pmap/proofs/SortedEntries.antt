@@ -1,4 +1,4 @@
--- Where a key stands in a list of rising entries, around one of them. Serves `get`, `inserted` and `removed` of the tree.
+-- Where a key is in a list of ascending entries, relative to one of them: for `get`, `inserted` and `removed` of the tree.
 use Rattle.std.proofs.Common.{◌≡◌, Bool, true, false, cond, not, ◌&&◌, T, List, [], ◌∷◌, ◌++◌, refl, sym, ap, subst, ◌∙◌}
 use Rattle.std.proofs.Common.{append_assoc}
 use Rattle.std.specs.Prelude.{None, Some, IsTrue, filter}

@@ -1,4 +1,4 @@
--- The entries of a branch one of whose sides was joined with an entry and another tree. Serves `join_to_right` and `join_to_left`.
+-- The entries of a branch, one side of which was joined with an entry and another tree: for `join_to_right` and `join_to_left`.
 use Rattle.std.proofs.Common.{◌≡◌, ℕ, ◌∷◌, ◌++◌, ◌<◌, ◌+◌, length, ap, arith, sym, append_assoc, length-append}
 use Rattle.cs_pmap.specs.Keys.{EntryList, key_cmp}
 use Rattle.cs_pmap.specs.Tree.{branch_entries}

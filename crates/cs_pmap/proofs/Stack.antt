@@ -1,4 +1,4 @@
--- One branch more or less on an iterator's stack. Serves `next` and `push_left_sides`.
+-- One branch more or less on an iterator's stack: for `next` and `push_left_sides`.
 use Rattle.std.proofs.Common.{◌≡◌, ℕ, ◌+◌, ◌-◌, ◌<◌, ◌≤◌, List, [], ◌∷◌, ◌++◌, length, sym, ap, subst, ◌∙◌}
 use Rattle.std.proofs.Common.{append_assoc, length-append, arith}
 use Rattle.std.proofs.lemmas.List.{append-nil}

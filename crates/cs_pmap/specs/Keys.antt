@@ -3,7 +3,7 @@ use Rattle.std.specs.Prelude.{◌≡◌, ℕ, not, filter, List}
 use Rattle.std.specs.declared.cmp.Ordering.{Ordering}
 use Rattle.std.specs.Ordering.{nat_cmp, ordering_then, eq_by_cmp}
 
--- by the first number, and where these are equal by the second
+-- by the first number, and by the second if these are equal
 abbrev pub key_cmp : ℕ × ℕ → ℕ × ℕ → Ordering
 key_cmp x y = ordering_then (nat_cmp x.0 y.0) (nat_cmp x.1 y.1)
 
@@ -11,7 +11,7 @@ key_cmp x y = ordering_then (nat_cmp x.0 y.0) (nat_cmp x.1 y.1)
 abbrev pub EntryList : Type 0 → Type 0
 EntryList V = List ((ℕ × ℕ) × V)
 
--- a clone is its original
+-- a clone equals its original
 abbrev pub ClonesAreEqual : {V : Type 0} → (V → V → Type 0) → Type 0
 ClonesAreEqual {V} IsClone = (original clone : V) → IsClone original clone → clone ≡ original
 

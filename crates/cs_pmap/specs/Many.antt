@@ -12,7 +12,7 @@ module _ {V : Type 0} where
   insert_all map [] = map
   insert_all map (e ∷ es) = insert_all (insert map e.0 e.1) es
 
-  -- the same of the list of a map's entries
+  -- the same for the list of a map's entries
   abbrev pub put_all : EntryList V → EntryList V → EntryList V
   put_all [] entries = entries
   put_all (e ∷ es) entries = put_all es (put key_cmp e.0 e.1 entries)
@@ -22,7 +22,7 @@ module _ {V : Type 0} where
   AllCompare order key [] = Unit {0}
   AllCompare order key (e ∷ es) = (key_cmp e.0 key ≡ order) × AllCompare order key es
 
-  -- entries before and after a key, and its value: that of its own entry, or the one that is kept where it has none
+  -- the entries before and after a key, and its value: that of its own entry, or the kept one if it has none
   pub record IsSplitAround (entries : EntryList V) (key : ℕ × ℕ) (kept : V) (around : Around V) : Type 0 where
     pub whole : ((entries ≡ around.before.now ++ around.after.now) × (around.value.now ≡ kept))
         ⊎ (entries ≡ around.before.now ++ (key, around.value.now) ∷ around.after.now)

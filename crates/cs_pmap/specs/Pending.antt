@@ -1,4 +1,4 @@
--- The stack of an iterator: branches whose own entry and right side are still to come, the next one last.
+-- The stack of an iterator: branches whose own entry and right side remain, the next one last.
 use Rattle.std.specs.Prelude.{ℕ, ◌-◌, ◌≤◌, List, [], ◌∷◌, ◌++◌, Option, None, Some}
 use Rattle.std.specs.Borrow.{Bor}
 use Rattle.cs_pmap.specs.Keys.{EntryList}
@@ -6,13 +6,13 @@ use Rattle.cs_pmap.specs.Tree.{IsBalanced}
 use Rattle.cs_pmap.specs.declared.tree.Branch.{Branch}
 
 module _ {V : Type 0} where
-  -- the entries still to come
+  -- the remaining entries
   abbrev pub pending : List (Option (Bor (Branch V))) → EntryList V
   pending [] = []
   pending (None ∷ bs) = pending bs
   pending (Some b ∷ bs) = pending bs ++ (b.now.key, b.now.value) ∷ b.now.right.0
 
-  -- each place has a branch, which is balanced and, with the branches under it on the stack, is low enough for its height
+  -- each place has a balanced branch, whose height is at most the capacity less the number of branches under it
   abbrev pub FitsCapacity : ℕ → List (Option (Bor (Branch V))) → Type 0
   FitsCapacity capacity [] = Unit {0}
   FitsCapacity capacity (None ∷ bs) = ⊥

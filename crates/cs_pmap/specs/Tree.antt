@@ -1,4 +1,4 @@
--- What a node of the search tree is seen as, and what holds of it.
+-- How contracts see a node of the search tree, and its invariant.
 use Rattle.std.specs.Prelude.{◌≡◌, ℕ, ◌+◌, ◌≤◌, max, Option, None, Some, [], ◌∷◌, ◌++◌, IsTrue}
 use Rattle.std.specs.Borrow.{Bor}
 use Rattle.std.specs.FinMap.{is_sorted}
@@ -16,7 +16,7 @@ module _ {V : Type 0} where
   abbrev pub branch_entries : Branch V → EntryList V
   branch_entries b = b.left.0 ++ (b.key, b.value) ∷ b.right.0
 
-  -- the keys rise, the stored height is right, and the heights of the sides differ by at most one
+  -- the keys ascend, the stored height is right, and the heights of the sides differ by at most one
   pub record IsBalanced (b : Branch V) : Type 0 where
     pub sorted : IsTrue (is_sorted key_cmp (branch_entries b))
     pub height : b.height ≡ max b.left.1 b.right.1 + 1

@@ -1,4 +1,5 @@
-//! The tree of an entry between two trees whose heights differ by at most two: by a rotation where they differ by two.
+//! Builds a tree from an entry between two trees whose heights differ by at most two, with a rotation if they
+//! differ by two.
 ghost use Rattle.std.specs.Prelude.{◌≡◌, ◌+◌, ◌∷◌, ◌++◌, IfOk, IsTrue};
 ghost use Rattle.std.specs.FinMap.{is_sorted};
 ghost use Rattle.cs_pmap.specs.Keys.{key_cmp, ClonesAreEqual};
@@ -29,7 +30,7 @@ pub fn balanced<V: Clone + Drop>(
     }
 }
 
-// The left side is two levels higher, and gives its outer or its inner side to the new root.
+// The left side is two levels higher. Its root, or the root of its inner side, becomes the new root.
 fn rotated_right<V: Clone + Drop>(
     alloc: Global,
     left: &Tree<V>,
@@ -58,7 +59,7 @@ fn rotated_right<V: Clone + Drop>(
     inner.between(alloc, lower_left, lower_right)
 }
 
-// The same, where the right side is two levels higher.
+// The same for a right side that is two levels higher.
 fn rotated_left<V: Clone + Drop>(
     alloc: Global,
     left: Tree<V>,

@@ -9,11 +9,11 @@ use smallvec::SmallVec;
 use std::alloc::{AllocError, Global};
 use std::marker::Model;
 
-/// The entries of a map that are still to come, in the order of their keys.
+/// The remaining entries of a map, in the order of their keys.
 #[derive(Drop)]
 pub struct Entries<'a, V> {
-    // The branches whose own entry and right side are still to come, the next one last. A tree of at most eight levels needs no
-    // allocation for them.
+    // The branches whose own entry and right side remain, the next one last. A tree of at most eight levels
+    // needs no allocation for them.
     stack: SmallVec<Option<&'a Branch<V>>, 8>,
 }
 
@@ -53,7 +53,7 @@ impl<'a, V> Iterator for Entries<'a, V> {
     }
 }
 
-// Puts on the stack the root of the tree, the root of its left side, and so on.
+// Pushes the root of the tree, the root of its left side, and so on.
 fn push_left_sides<'a, V>(stack: &mut SmallVec<Option<&'a Branch<V>>, 8>, mut tree: &'a Tree<V>)
     requires fits { FitsCapacity stack.old.capacity stack.old.items }
     requires room { tree.now.1 + small_vec_len stack.old ≤ stack.old.capacity }

@@ -1,5 +1,6 @@
-//! The tree of an entry between two trees of any heights: the join of Blelloch, Ferizovic and Sun (Just Join for Parallel Ordered
-//! Sets, 2016). It copies the branches of the higher tree down to where the lower one has its height.
+//! Builds a tree from an entry between two trees of any heights: the join of Blelloch, Ferizovic and Sun
+//! (Just Join for Parallel Ordered Sets, 2016). It copies the branches of the higher tree down to the height
+//! of the lower one.
 ghost use Rattle.std.specs.Prelude.{◌≡◌, ◌+◌, ◌≤◌, ◌∷◌, ◌++◌, IfOk, IsTrue};
 ghost use Rattle.std.specs.FinMap.{is_sorted};
 ghost use Rattle.cs_pmap.specs.Keys.{key_cmp, ClonesAreEqual};
@@ -28,7 +29,7 @@ pub fn join<V: Clone + Drop>(
     }
 }
 
-// The left side is at least as high, but for one level: the entry goes down its right side.
+// The left side is at most one level lower. The entry goes down its right side.
 fn join_to_right<V: Clone + Drop>(
     alloc: Global,
     left: &Tree<V>,
@@ -54,7 +55,7 @@ fn join_to_right<V: Clone + Drop>(
     balanced(alloc, outer, root.key, root_value, joined)
 }
 
-// The same, where the right side is as high.
+// The same with the sides exchanged.
 fn join_to_left<V: Clone + Drop>(
     alloc: Global,
     left: Tree<V>,

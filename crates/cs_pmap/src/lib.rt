@@ -1,4 +1,4 @@
-//! A finite map from pairs of numbers, kept as a balanced tree whose parts are shared between copies.
+//! A persistent map from pairs of numbers: a balanced tree whose parts are shared between copies.
 #![tactic(auto)]
 
 mod balance;

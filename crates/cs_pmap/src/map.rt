@@ -1,4 +1,4 @@
-//! The map: a tree, and the allocator that its branches come from.
+//! The map: a tree, and the allocator of its branches.
 ghost use Rattle.std.specs.Prelude.{◌≡◌, IfOk, OnOk, OnErr};
 ghost use Rattle.std.specs.FinMap as map;
 ghost use Rattle.std.specs.Option.{option_copied};
@@ -34,7 +34,7 @@ impl<V> Model for PMap<V> {
 }
 
 impl<V> PMap<V> {
-    /// The empty map.
+    /// Returns the empty map.
     pub fn new(alloc: Global) -> PMap<V>
         ensures { result ≡ map.empty }
     {
@@ -44,19 +44,20 @@ impl<V> PMap<V> {
         }
     }
 
-    /// The value of a key.
+    /// Returns the value of a key.
     pub fn get(&self, key: Key) -> Option<&V>
         ensures { option_copied result ≡ map.get self.now key }
     {
         self.tree.get(key)
     }
 
-    /// How many levels the tree has: a map of `n` keys has at least `log n`.
+    /// Returns the number of levels of the tree: a map of `n` keys has at least `log n`.
     pub fn height(&self) -> u64 {
         self.tree.height()
     }
 
-    /// The keys with their values, in the order of the keys. The iterator takes its memory here and none later.
+    /// Returns the keys with their values, in the order of the keys. The iterator allocates its memory here
+    /// and none later.
     pub fn iter(&self) -> Result<Entries<'_, V>, AllocError>
         ensures { IfOk result (λ entries. entries ≡ map.entries self.now) }
     {
@@ -65,7 +66,7 @@ impl<V> PMap<V> {
 }
 
 impl<V: Drop> PMap<V> {
-    /// The same map, as one more owner of its branches.
+    /// Returns a copy, which shares the branches.
     pub fn copy(&self) -> Result<PMap<V>, AllocError>
         ensures { IfOk result (λ copy. copy ≡ self.now) }
     {
@@ -87,7 +88,8 @@ impl<V: Clone + Drop> PMap<V> {
         Ok(())
     }
 
-    /// Sets the values of keys, one after another. Where the keys ascend, this takes much less time than as many calls of `insert`.
+    /// Sets the values of keys, one after another. For ascending keys this takes much less time than as many
+    /// calls of `insert`.
     pub fn insert_all(&mut self, entries: &[(Key, V)]) -> Result<(), AllocError>
         requires clones { ClonesAreEqual V.is_clone }
         ensures ok { OnOk result (self.new ≡ insert_all self.old entries.now) }
@@ -97,7 +99,7 @@ impl<V: Clone + Drop> PMap<V> {
         Ok(())
     }
 
-    /// Takes a key out, where it is there.
+    /// Removes a key, if it is there.
     pub fn remove(&mut self, key: Key) -> Result<(), AllocError>
         requires clones { ClonesAreEqual V.is_clone }
         ensures ok { OnOk result (self.new ≡ map.remove self.old key) }

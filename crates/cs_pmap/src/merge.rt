@@ -1,5 +1,6 @@
-//! Trees with many entries more. A list in ascending order of keys is merged into the tree, in time that grows with the length of the
-//! list and with the logarithm of the tree's size over it; any other goes in entry by entry.
+//! Inserts many entries into a tree. A list in ascending order of keys is merged into the tree, in time that
+//! grows with the length of the list and with the logarithm of the tree's size divided by it; any other list
+//! is inserted entry by entry.
 ghost use Rattle.std.specs.Prelude.{◌≡◌, IfOk, IsTrue};
 ghost use Rattle.std.specs.FinMap.{is_sorted};
 ghost use Rattle.cs_pmap.specs.Keys.{key_cmp, ClonesAreEqual};
@@ -19,7 +20,7 @@ pub struct Around<'a, V> {
 }
 
 impl<V: Clone + Drop> Tree<V> {
-    /// The tree after these entries are inserted, one after another.
+    /// Returns the tree after these entries are inserted, one after another.
     pub fn with_all(&self, alloc: Global, entries: &[(Key, V)]) -> Result<Tree<V>, AllocError>
         requires clones { ClonesAreEqual V.is_clone }
         ensures { IfOk result (λ tree. tree.0 ≡ put_all entries.now self.now.0) }
@@ -31,7 +32,7 @@ impl<V: Clone + Drop> Tree<V> {
         }
     }
 
-    // With entries in ascending order.
+    // Inserts entries in ascending order.
     fn merged(&self, alloc: Global, entries: &[(Key, V)]) -> Result<Tree<V>, AllocError>
         requires clones { ClonesAreEqual V.is_clone }
         requires ascending { IsTrue (is_sorted key_cmp entries.now) }
@@ -50,7 +51,7 @@ impl<V: Clone + Drop> Tree<V> {
         join(alloc, left, root.key, value, right)
     }
 
-    // With entries in any order.
+    // Inserts entries in any order.
     fn with_each(&self, alloc: Global, entries: &[(Key, V)]) -> Result<Tree<V>, AllocError>
         requires clones { ClonesAreEqual V.is_clone }
         ensures { IfOk result (λ tree. tree.0 ≡ put_all entries.now self.now.0) }
@@ -64,7 +65,7 @@ impl<V: Clone + Drop> Tree<V> {
     }
 }
 
-// The tree of these entries.
+// Builds the tree of these entries.
 fn built<V: Clone + Drop>(alloc: Global, entries: &[(Key, V)]) -> Result<Tree<V>, AllocError>
     requires clones { ClonesAreEqual V.is_clone }
     requires ascending { IsTrue (is_sorted key_cmp entries.now) }
@@ -98,7 +99,7 @@ fn is_ascending<V>(entries: &[(Key, V)]) -> bool
     true
 }
 
-// The entries around a key, by binary search. Where the key has no entry, the value is the one that is kept.
+// Returns the entries around a key, by binary search. If the key has no entry, its value is `kept`.
 fn split_around<'a, V>(entries: &'a [(Key, V)], key: Key, kept: &'a V) -> Around<'a, V>
     requires ascending { IsTrue (is_sorted key_cmp entries.now) }
     ensures { IsSplitAround entries.now key kept.now result }

@@ -1,4 +1,4 @@
-//! A search tree over `Rc` in which the heights of the two sides differ by at most one at each node.
+//! A search tree over `Rc`: at each node, the heights of the two sides differ by at most one.
 ghost use Rattle.std.specs.Prelude.{◌≡◌, ◌+◌, max, [], ◌∷◌, ◌++◌, IfOk, IsTrue};
 ghost use Rattle.std.specs.FinMap.{is_sorted, find};
 ghost use Rattle.std.specs.Option.{option_copied};
@@ -12,7 +12,7 @@ use std::rc::Rc;
 
 pub type Key = (u64, u64);
 
-/// By the first number, and where these are equal by the second.
+/// Compares by the first number, and by the second if these are equal.
 #[inline]
 pub fn compare(key: Key, other: Key) -> Ordering
     ensures { result ≡ key_cmp key other }
@@ -40,7 +40,7 @@ pub enum Node<V> {
 #[cycle(tree)]
 #[derive(Drop)]
 pub struct Branch<V> {
-    // What a look-up reads stands together.
+    // The fields that a look-up reads are together.
     pub key: Key,
     pub left: Tree<V>,
     pub right: Tree<V>,
@@ -68,14 +68,14 @@ impl<V> Model for Tree<V> {
 }
 
 impl<V> Tree<V> {
-    /// The empty tree.
+    /// Returns the empty tree.
     pub fn new() -> Tree<V>
         ensures { result ≡ ([], 0) }
     {
         Tree { node: Node::Leaf }
     }
 
-    /// How many levels of branches the tree has.
+    /// Returns the number of levels of branches.
     pub fn height(&self) -> u64
         ensures { result ≡ self.now.1 }
     {
@@ -85,7 +85,7 @@ impl<V> Tree<V> {
         }
     }
 
-    /// The branch at the root.
+    /// Returns the branch at the root.
     pub fn branch(&self) -> Option<&Branch<V>>
         ensures { IsBranchOf self.now result }
     {
@@ -95,7 +95,7 @@ impl<V> Tree<V> {
         }
     }
 
-    /// The value of a key.
+    /// Returns the value of a key.
     pub fn get(&self, key: Key) -> Option<&V>
         ensures { option_copied result ≡ find key_cmp key self.now.0 }
     {
@@ -110,7 +110,8 @@ impl<V> Tree<V> {
         None
     }
 
-    /// The tree of an entry between two trees. A tree too high for its height to be counted is refused as one for which there is no memory.
+    /// Builds a tree from an entry between two trees. If the height overflows its counter, the call fails as
+    /// if it ran out of memory.
     pub fn fork(
         alloc: Global,
         left: Tree<V>,
@@ -140,7 +141,7 @@ impl<V> Tree<V> {
         })
     }
 
-    /// The same tree, of which every branch is shared with this one.
+    /// Returns a copy, which shares all branches.
     pub fn copy(&self) -> Result<Tree<V>, AllocError>
     where
         V: Drop,
@@ -156,7 +157,7 @@ impl<V> Tree<V> {
 }
 
 impl<V: Clone + Drop> Branch<V> {
-    /// The tree of this branch's entry between two other trees.
+    /// Builds a tree from this branch's entry between two other trees.
     pub fn between(
         &self,
         alloc: Global,

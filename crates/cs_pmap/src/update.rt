@@ -1,4 +1,5 @@
-//! Trees with one entry more or one less. They copy the branches on the way to the entry and share all others.
+//! Inserts and removes one entry. The new tree has copies of the branches on the path to the entry, and
+//! shares all others.
 ghost use Rattle.std.specs.Prelude.{◌≡◌, ◌+◌, ◌≤◌, max, ◌++◌, IfOk, IsTrue};
 ghost use Rattle.std.specs.FinMap.{is_sorted, put};
 ghost use Rattle.cs_pmap.specs.Keys.{key_cmp, without, ClonesAreEqual};
@@ -10,7 +11,7 @@ use crate::tree::{Key, Tree, compare};
 use std::alloc::{AllocError, Global};
 use std::cmp::Ordering;
 
-/// The first entry of a tree, and the tree of the others.
+/// The first entry of a tree, and a tree of the others.
 #[derive(Drop)]
 pub struct FirstAndRest<V> {
     pub key: Key,
@@ -19,7 +20,7 @@ pub struct FirstAndRest<V> {
 }
 
 impl<V: Clone + Drop> Tree<V> {
-    /// The tree with this value at the key.
+    /// Returns the tree with this value at the key.
     pub fn inserted(&self, alloc: Global, key: Key, value: V) -> Result<Tree<V>, AllocError>
         requires clones { ClonesAreEqual V.is_clone }
         ensures entries { IfOk result (λ tree. tree.0 ≡ put key_cmp key value self.now.0) }
@@ -59,7 +60,7 @@ impl<V: Clone + Drop> Tree<V> {
         }
     }
 
-    /// The tree without the key.
+    /// Returns the tree without the key.
     pub fn removed(&self, alloc: Global, key: Key) -> Result<Tree<V>, AllocError>
         requires clones { ClonesAreEqual V.is_clone }
         ensures entries { IfOk result (λ tree. tree.0 ≡ without key self.now.0) }
@@ -93,7 +94,7 @@ impl<V: Clone + Drop> Tree<V> {
         }
     }
 
-    /// The first entry and the others, where there are any.
+    /// Returns the first entry and the others, if there is one.
     fn split_first(&self, alloc: Global) -> Result<Option<FirstAndRest<V>>, AllocError>
         requires clones { ClonesAreEqual V.is_clone }
         ensures { IfOk result (SplitsFirst self.now) }
@@ -125,7 +126,8 @@ impl<V: Clone + Drop> Tree<V> {
     }
 }
 
-// The tree of the entries of one tree and of another after it: what remains of a branch whose own entry is removed.
+// Builds the tree of the entries of one tree followed by those of another: what remains of a branch whose own
+// entry is removed.
 fn joined<V: Clone + Drop>(
     alloc: Global,
     left: &Tree<V>,

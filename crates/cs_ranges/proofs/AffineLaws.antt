@@ -1,4 +1,4 @@
--- An affine function seen from another of its points: serves `affine_preimage`.
+-- An affine function given by its value at another number: for `affine_preimage`.
 use Rattle.std.proofs.Common.{◌≡◌, ◌*◌, ℕ, ℤ, pos, neg_ℤ, ◌+ℤ◌, ◌-ℤ◌, ◌*ℤ◌, ap, ◌∙◌, arith}
 use Rattle.std.proofs.lemmas.Int.{ints}
 use borrow.Author.Differences.{up, down, sum_is_lem, neg_is}

@@ -1,4 +1,4 @@
--- The numbers at which a line has values in a set, interval by interval: serves `Line::preimage`.
+-- The numbers at which a line has values in a set, interval by interval: for `Line::preimage`.
 use Rattle.std.proofs.Common.{◌≡◌, Bool, true, false, ◌||◌, ◌&&◌, ℤ, ◌<ℤ◌, ◌≤ℤ◌, int_le, List, [], ◌∷◌, refl, sym, ap}
 use Rattle.std.proofs.Common.{ap₂, ◌∙◌, arith}
 use Rattle.std.proofs.lemmas.Int.{ints}

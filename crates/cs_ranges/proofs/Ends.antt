@@ -1,4 +1,4 @@
--- The least and the greatest number of a set: serves `least` and `greatest`.
+-- The least and the greatest number of a set: for `least` and `greatest`.
 use Rattle.std.proofs.Common.{◌<◌, ◌-◌, inl, inr, List, [], ◌∷◌, ◌++◌, length, get_or, refl, sym, ◌∙◌, subst, arith, not-suc-le-zero}
 use Rattle.std.proofs.lemmas.Int.{ints}
 use Rattle.std.proofs.lemmas.List.{get_or_default}

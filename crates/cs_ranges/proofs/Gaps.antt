@@ -1,4 +1,4 @@
--- The gaps before a number and the intervals from there on: serves `complement`.
+-- The gaps before a number and the intervals from there on: for `complement`.
 use Rattle.std.proofs.Common.{◌≡◌, ◌^◌, Bool, true, false, ◌||◌, ◌&&◌, not, ℤ, pos, neg_ℤ, ◌+ℤ◌, ◌-ℤ◌, ◌<ℤ◌}
 use Rattle.std.proofs.Common.{◌≤ℤ◌, int_le, List, [], ◌∷◌, refl, sym, ap, ◌∙◌, arith, ◌+◌}
 use Rattle.std.proofs.lemmas.Int.{ints}

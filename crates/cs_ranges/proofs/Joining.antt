@@ -1,4 +1,4 @@
--- What either of two lists has, as the interval that begins first is taken off in turn: serves `union` and `push_all`.
+-- The numbers of either of two lists, while the interval that begins first is removed in turn: for `union` and `push_all`.
 use Rattle.std.proofs.Common.{◌≡◌, ◌⊎◌, Bool, true, false, ◌||◌, inl, inr, ℤ, ◌<ℤ◌, ◌≤ℤ◌, List, [], ◌∷◌, refl, sym, ap}
 use Rattle.std.proofs.Common.{◌∙◌, arith}
 use Rattle.std.proofs.lemmas.Int.{ints}

@@ -1,4 +1,4 @@
--- A list as its front and its last item: serves the functions that write the last item.
+-- A list as its front and its last item: for the functions that write the last item.
 use Rattle.std.proofs.Common.{◌≡◌, ◌+◌, ◌-◌, ◌<◌, ℕ, List, [], ◌∷◌, ◌++◌, length, take, set, get_or, sym, ap, ◌∙◌, arith}
 use Rattle.std.proofs.Common.{take_all}
 use Rattle.std.proofs.lemmas.List.{take_more, take_more_set, length-set}

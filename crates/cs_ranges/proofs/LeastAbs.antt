@@ -1,4 +1,4 @@
--- The number nearest to zero, interval by interval: serves `least_abs`.
+-- The number nearest to zero, interval by interval: for `least_abs`.
 use Rattle.std.proofs.Common.{◌≡◌, ◌⊎◌, true, inl, inr, ℤ, List, [], ◌∷◌, ◌++◌, sym, ap, ◌∙◌, arith}
 use Rattle.std.proofs.lemmas.Int.{ints}
 use Rattle.std.proofs.lemmas.Bool.{or_cases, or_left, or_right}

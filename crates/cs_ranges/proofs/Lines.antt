@@ -1,4 +1,4 @@
--- Where a line that doesn't fall reaches a number: serves `first_at_least` and `last_at_most`.
+-- Where a line that doesn't fall reaches a number: for `first_at_least` and `last_at_most`.
 use Rattle.std.proofs.Common.{◌≡◌, ◌<◌, ◌≤◌, ◌*◌, ◌/◌, ℕ, zero, suc, true, false, ◌&&◌, ℤ, pos, negsuc, neg_ℤ, ◌+ℤ◌}
 use Rattle.std.proofs.Common.{◌-ℤ◌}
 use Rattle.std.proofs.Common.{◌*ℤ◌, ◌<ℤ◌, ◌≤ℤ◌, int_le, unsigned_abs, sym, ap, ◌∙◌, arith}

@@ -1,4 +1,4 @@
--- What two lists have both, as two ends of them are taken off in turn: serves `intersect`.
+-- The numbers that both of two lists have, while their first intervals are removed in turn: for `intersect`.
 use Rattle.std.proofs.Common.{◌≡◌, ◌⊎◌, Bool, true, false, ◌||◌, ◌&&◌, inl, inr, ℤ, pos, ◌+ℤ◌, ◌<ℤ◌, ◌≤ℤ◌, List, []}
 use Rattle.std.proofs.Common.{◌∷◌, refl, sym, ap, ◌∙◌, ap₂, arith}
 use Rattle.std.specs.Int.{int_max}

@@ -1,4 +1,4 @@
--- The negatives of a set, interval by interval from the last one on: serves `negated`.
+-- The negatives of a set, interval by interval from the last one backwards: for `negated`.
 use Rattle.std.proofs.Common.{◌≡◌, Bool, true, false, ◌||◌, ℤ, neg_ℤ, ◌≤ℤ◌, List, [], ◌∷◌, ◌++◌, refl, sym, ap, ◌∙◌}
 use Rattle.std.proofs.Common.{arith}
 use Rattle.std.proofs.lemmas.Int.{ints}

@@ -1,4 +1,4 @@
--- The interval of a spread list that may have a number: serves the binary search of `contains`.
+-- The interval of a spread list that may have a number: for the binary search of `contains`.
 use Rattle.std.proofs.Common.{◌≡◌, ◌<◌, ◌≤◌, ℕ, zero, suc, false, ◌||◌, ℤ, pos, ◌+ℤ◌, ◌<ℤ◌, ◌≤ℤ◌, int_le, List, []}
 use Rattle.std.proofs.Common.{◌∷◌, length, get_or, ap, ◌∙◌, arith, not-suc-le-zero, le_of_suc-le-suc}
 use Rattle.std.proofs.lemmas.Int.{ints}

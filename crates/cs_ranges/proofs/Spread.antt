@@ -1,4 +1,4 @@
--- Lists of intervals in order and with gaps: serves the invariant of `RangeSet`.
+-- Lists of intervals in order and with gaps: for the invariant of `RangeSet`.
 use Rattle.std.proofs.Common.{◌≡◌, ◌<◌, ◌^◌, ℕ, zero, suc, Bool, true, false, ◌&&◌, not, ℤ, pos, ◌+ℤ◌, ◌<ℤ◌, ◌≤ℤ◌}
 use Rattle.std.proofs.Common.{List, [], ◌∷◌, ◌++◌, length, get_or, inl, inr, refl, sym, ◌∙◌, arith, not-suc-le-zero, le_of_suc-le-suc}
 use Rattle.std.proofs.lemmas.Int.{ints, by_lt_z}

@@ -1,15 +1,15 @@
 use Rattle.std.specs.Prelude.{◌^◌, Bool, ◌&&◌, ℤ, pos, neg_ℤ, ◌≤ℤ◌, int_le}
 use Rattle.cs_ranges.specs.declared.range_set.Interval.{Interval}
 
--- the number lies from -2^126 to 2^126
+-- the number is from -2^126 to 2^126
 abbrev pub IsInside : ℤ → Type 0
 IsInside x = (neg_ℤ (pos (2 ^ 126)) ≤ℤ x) × (x ≤ℤ pos (2 ^ 126))
 
--- the number lies between the ends of the interval, or is one of them
+-- the number is between the ends of the interval, or is one of them
 unfoldable pub in_interval : Interval → ℤ → Bool
 in_interval i x = int_le i.low x && int_le x i.high
 
--- the interval has a number and lies inside -2^126..2^126
+-- the interval isn't empty, and its numbers are from -2^126 to 2^126
 pub record IsProper (i : Interval) : Type 0 where
   pub from : neg_ℤ (pos (2 ^ 126)) ≤ℤ i.low
   pub ordered : i.low ≤ℤ i.high

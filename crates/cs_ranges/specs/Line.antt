@@ -11,8 +11,8 @@ is_over line s = int_le line.first s && int_le s line.last
 abbrev pub value_of : Line → ℤ → ℤ
 value_of line s = affine (pos line.slope) line.first line.start s
 
--- where the line is over a number, its value is at least the least of these values exactly from the first of the numbers on, and at most their greatest exactly
--- up to the last
+-- for the numbers that the line is over, its value is at least the least of these values exactly from the first of the numbers on, and at
+-- most the greatest exactly up to the last
 pub record IsPreimage (line : Line) (values numbers : Interval) : Type 0 where
   pub from : line.first ≤ℤ numbers.low
   pub upto : numbers.high ≤ℤ line.last

@@ -40,14 +40,14 @@ pub record IsGreatest (s : List Interval) (x : ℤ) : Type 0 where
   pub member : IsTrue (contains s x)
   pub greatest : (y : ℤ) → IsTrue (contains s y) → y ≤ℤ x
 
--- so many different numbers are in the set: some list has each of them once and has no other
+-- the number of elements of the set: some list has each of them once and no others
 pub record IsCount (s : List Interval) (n : ℕ) : Type 0 where
   pub numbers : List ℤ
   pub members : (x : ℤ) → IsTrue (contains s x) ↔ Contains numbers x
   pub differ : (j k : ℕ) (d : ℤ) → j < k → k < length numbers → slice_index_or numbers j d ≢ slice_index_or numbers k d
   pub count : length numbers ≡ n
 
--- the first number is no farther from zero than the second, and where both are as far, it is no less
+-- the first number is no farther from zero than the second, and if both are equally far, it is no less
 abbrev pub IsNearest : ℤ → ℤ → Type 0
 IsNearest x y = (unsigned_abs x < unsigned_abs y) ⊎ ((unsigned_abs x ≡ unsigned_abs y) × (y ≤ℤ x))
 
@@ -56,21 +56,21 @@ pub record IsLeastAbs (s : List Interval) (x : ℤ) : Type 0 where
   pub member : IsTrue (contains s x)
   pub nearest : (y : ℤ) → IsTrue (contains s y) → IsNearest x y
 
--- each interval has a number and ends by 2^126, the first begins at the bound or above it, and each other one after a gap
+-- no interval is empty or ends above 2^126, the first begins at the bound or above it, and each other one after a gap
 abbrev pub IsSpreadFrom : ℤ → List Interval → Type 0
 IsSpreadFrom bound [] = Unit {0}
 IsSpreadFrom bound (i ∷ rest) =
     (bound ≤ℤ i.low) × (i.low ≤ℤ i.high) × (i.high ≤ℤ pos (2 ^ 126)) × IsSpreadFrom (i.high +ℤ pos 2) rest
 
--- the intervals lie inside -2^126..2^126, in order, and no two overlap or touch
+-- the intervals are within -2^126..2^126, in order, and no two overlap or touch
 abbrev pub IsSpread : List Interval → Type 0
 IsSpread s = IsSpreadFrom (neg_ℤ (pos (2 ^ 126))) s
 
--- where the last interval begins, or the number where there is none
+-- the low end of the last interval, or the given number if there is none
 unfoldable pub last_low_or : ℤ → List Interval → ℤ
 last_low_or x [] = x
 last_low_or x (i ∷ rest) = last_low_or i.low rest
 
--- where the last interval begins, or -2^126 where there is none
+-- the low end of the last interval, or -2^126 if there is none
 abbrev pub last_low : List Interval → ℤ
 last_low s = last_low_or (neg_ℤ (pos (2 ^ 126))) s

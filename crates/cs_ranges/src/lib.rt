@@ -1,4 +1,4 @@
-//! Range sets: which integers a symbol may stand for on a path.
+//! Range sets: the integers that a symbol may have on a path.
 #![tactic(auto)]
 
 mod range_set;

@@ -1,6 +1,6 @@
-//! `RangeSet`, the set of integers that a symbol may stand for on a path, in the sense of the range
-//! sets of Clang's `RangeConstraintManager`: a finite union of closed ranges. The empty set says that
-//! the path is infeasible.
+//! `RangeSet`, the set of integers that a symbol may have on a path, in the sense of the range sets of
+//! Clang's `RangeConstraintManager`: a finite union of closed ranges. The empty set means that the path is
+//! infeasible.
 ghost use Rattle.std.specs.Prelude.{◌≡◌, ℤ, neg_ℤ, [], ◌&&◌, ◌||◌, int_le, ◌≤ℤ◌, ◌≤◌, length, IsOk, IfOk, OnOk};
 ghost use Rattle.cs_ranges.specs.Interval.{IsInside, IsProper, in_interval};
 ghost use Rattle.cs_ranges.specs.RangeSet.{contains, IsSpread, last_low};
@@ -15,8 +15,7 @@ mod query;
 
 pub use affine::{affine_preimage, affine_value};
 
-/// The closed range from `low` to `high`: both ends belong to it, and it has no number where `low`
-/// is above `high`.
+/// The closed range from `low` to `high`: both ends belong to it, and it is empty if `low` is above `high`.
 #[derive(Clone, Copy, Debug, Default, PartialEq, Eq)]
 pub struct Interval {
     pub low: i128,
@@ -24,7 +23,7 @@ pub struct Interval {
 }
 
 impl Interval {
-    /// The negatives of the numbers.
+    /// Returns the negatives of the numbers.
     fn negated(self) -> Interval
         requires { IsProper self }
         ensures proper { IsProper result }
@@ -46,8 +45,8 @@ pub const GREATEST: i128 = 1 << 126;
 
 /// A set of integers from `LEAST` to `GREATEST`.
 ///
-/// Its intervals stand in ascending order, each has a number, and no two overlap or touch. So a set
-/// has one list of intervals only: `1..2` and `3..5` are kept as `1..5`.
+/// Its intervals are in ascending order, none is empty, and no two overlap or touch. So a set has only one
+/// list of intervals: `1..2` and `3..5` are kept as `1..5`.
 #[derive(Debug)]
 pub struct RangeSet {
     // A sorted vector: a comparison splits a range into at most two, so nearly every set on a path
@@ -67,8 +66,8 @@ impl Model for RangeSet {
     ghost invariant = { λ s. IsSpread s.intervals.items };
 }
 
-// Written out, so that to drop a set is a call and not a choice by where its intervals are: proofs of functions that own
-// several sets stay small.
+// Written out, so that dropping a set is one call, and not a case split on where its intervals are: proofs of
+// functions that own several sets stay small.
 impl Drop for RangeSet {
     fn drop(self) {
         let RangeSet { intervals: _ } = self;
@@ -92,7 +91,7 @@ impl RangeSet {
         }
     }
 
-    /// The numbers from `low` to `high`, none where `low` is above `high`. It takes no memory.
+    /// Returns the numbers from `low` to `high`, none if `low` is above `high`. Allocates no memory.
     #[tactic(auto, unfolding(crate::specs::RangeSet::contains, crate::specs::Interval::in_interval))]
     pub fn of(alloc: Global, low: i128, high: i128) -> Result<RangeSet, AllocError>
         requires low_inside { IsInside low }
@@ -108,7 +107,7 @@ impl RangeSet {
         Ok(RangeSet { intervals })
     }
 
-    /// The same set once more. It takes memory only where there are more than two intervals.
+    /// Returns a copy. Allocates memory only if there are more than two intervals.
     pub fn copy(&self) -> Result<RangeSet, AllocError>
         ensures same { IfOk result (λ s. s ≡ self.now) }
         ensures succeeds { length self.now ≤ 2 → IsOk result }
@@ -120,7 +119,7 @@ impl RangeSet {
         Ok(RangeSet { intervals })
     }
 
-    /// The intervals in ascending order.
+    /// Returns the intervals in ascending order.
     pub fn intervals(&self) -> &[Interval]
         ensures same { result.now ≡ self.now }
         ensures spread { IsSpread self.now }
@@ -128,8 +127,7 @@ impl RangeSet {
         self.intervals.as_slice()
     }
 
-    /// Adds an interval that begins no earlier than the last one, and joins the two where they
-    /// overlap or touch.
+    /// Adds an interval that begins no earlier than the last one, and joins the two if they overlap or touch.
     fn push(&mut self, interval: Interval) -> Result<(), AllocError>
         requires proper { IsProper interval }
         requires following { last_low self.old ≤ℤ interval.low }

@@ -1,4 +1,4 @@
--- The places of keys in a list in which each stands once: for the contract of `number_of`.
+-- The indexes of keys in a list that has each once: for the contract of `number_of`.
 use Rattle.std.proofs.Common.{◌≡◌, ◌⊎◌, ◌+◌, ℕ, zero, suc, Bool, true, false, Some, List, [], ◌∷◌, ◌++◌, slice_get, refl, sym, ap}
 use Rattle.std.proofs.Common.{◌∙◌, inl, inr, subst, true≢false, arith}
 use Rattle.std.specs.List.{Contains, IsDistinct, position_or_len, AllByRecursion}

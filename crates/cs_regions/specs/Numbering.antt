@@ -1,9 +1,9 @@
--- Base regions numbered by their places in a list.
+-- Base regions, numbered by their indexes in a list.
 use Rattle.std.specs.Prelude.{◌≡◌, ◌⊎◌, ℕ, Some, List, [], ◌∷◌, ◌++◌, slice_get}
 use Rattle.std.specs.List.{Contains}
 use Rattle.cs_regions.specs.declared.base.Base.{Base}
 
--- the base region stands at the place that the number says
+-- the number is the index of the base region
 abbrev pub IsNumberOf : List Base → Base → ℕ → Type 0
 IsNumberOf bases base number = slice_get bases number ≡ Some base
 
@@ -11,7 +11,7 @@ IsNumberOf bases base number = slice_get bases number ≡ Some base
 abbrev pub IsNumbered : List Base → Type 0
 IsNumbered bases = (base : Base) (one other : ℕ) → IsNumberOf bases base one → IsNumberOf bases base other → one ≡ other
 
--- the list stays where it has the base region, and else the base region goes after its last
+-- the list doesn't change if it has the base region; else the base region is appended
 abbrev pub IsSeenAfter : List Base → Base → List Base → Type 0
 IsSeenAfter before base after =
     (Contains before base × (after ≡ before)) ⊎ ((Contains before base → ⊥) × (after ≡ before ++ base ∷ []))

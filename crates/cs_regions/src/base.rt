@@ -11,8 +11,8 @@ use cs_inputs::Path;
 /// A base region: an object that is part of no other.
 #[derive(Clone, Debug, Drop, PartialEq, Eq, Hash)]
 pub enum Base {
-    /// The block that the pointer at a path names when the entry begins. It is the paper's symbolic region: nothing but the pointer is
-    /// known of it.
+    /// The block that the pointer at a path points to when the entry begins. It is the paper's symbolic
+    /// region: only its pointer is known.
     Entry(Path),
     /// A file-scope object, by its number in the program.
     Global(u32),
@@ -27,16 +27,16 @@ pub enum Base {
 /// A memory space: base regions in different ones are never the same object.
 #[derive(Clone, Copy, PartialEq, Eq, Debug)]
 pub enum Space {
-    /// Blocks that were there before the entry began.
+    /// Blocks that existed before the entry began.
     Start,
     Globals,
-    /// What holds its contents for good: string literals.
+    /// Objects whose contents never change: string literals.
     Constants,
     Stack,
     Heap,
 }
 
-/// The memory space that a base region lies in.
+/// Returns the memory space of a base region.
 pub fn space_of(base: &Base) -> Space
     ensures { result ≡ space_with base.now }
 {

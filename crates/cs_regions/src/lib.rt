@@ -1,4 +1,4 @@
-//! Base regions: the objects that pointers name, the spaces of memory that they lie in, and their numbers.
+//! Base regions: the objects that pointers point to, their memory spaces, and their numbers.
 #![tactic(auto)]
 
 mod base;

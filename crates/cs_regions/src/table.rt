@@ -8,14 +8,15 @@ use crate::base::Base;
 use indexmap::IndexMap;
 use std::alloc::{AllocError, Global};
 
-/// Base regions in the order in which they were first seen. A base region's number is its place in this order, from 0.
+/// Base regions in the order in which they were first seen. A base region's number is its index in this
+/// order, from 0.
 #[derive(Drop)]
 pub struct BaseTable {
     pub names: IndexMap<Base, ()>,
 }
 
 impl BaseTable {
-    /// No base region was seen.
+    /// Returns an empty table.
     pub fn new(alloc: Global) -> BaseTable
         ensures { keys result.names ≡ [] }
     {
@@ -24,7 +25,7 @@ impl BaseTable {
         }
     }
 
-    /// The number of a base region, which takes the next one where it is seen for the first time.
+    /// Returns the number of a base region; a new one gets the next number.
     pub fn number_of(&mut self, base: Base) -> Result<u64, AllocError>
         ensures number { IfOk result (IsNumberOf (keys self.new.names) base) }
         ensures seen { OnOk result (IsSeenAfter (keys self.old.names) base (keys self.new.names)) }
@@ -35,7 +36,7 @@ impl BaseTable {
         Ok(number as u64)
     }
 
-    /// The base region with a number, where there is one.
+    /// Returns the base region with a number, if there is one.
     pub fn base(&self, number: u64) -> Option<&Base>
         ensures { option_copied result ≡ slice_get (keys self.now.names) number }
     {

@@ -1,4 +1,4 @@
-//! What the ends of an interval say of the comparison of its numbers with 0.
+//! Whether the ends of an interval decide how its numbers compare with 0.
 ghost use Rattle.std.specs.Prelude.{◌≡◌};
 ghost use Rattle.cs_signs.specs.Signs as signs;
 ghost use Rattle.cs_signs.specs.Signs.{IsSignBetween};
@@ -7,7 +7,8 @@ use crate::sets::opposite;
 use cs_ast::typed::operator::CmpOp;
 use cs_ranges::Interval;
 
-/// Whether the numbers between the ends all compare so with 0, or none does.
+/// Returns whether the comparison with 0 holds for all numbers between the ends, or for none of them; `None`
+/// if the ends don't decide.
 pub fn sign_between(op: CmpOp, ends: Interval) -> Option<bool>
     ensures { IsSignBetween op ends result }
 {
@@ -20,7 +21,7 @@ pub fn sign_between(op: CmpOp, ends: Interval) -> Option<bool>
     None
 }
 
-// Whether the ends say that the numbers between them all compare so with 0. They don't say it of an equation.
+// Whether the ends show that the comparison with 0 holds for all numbers between them. For `==` they never do.
 fn holds_between(op: CmpOp, ends: Interval) -> bool
     ensures { result ≡ signs.holds_between op ends }
 {

@@ -1,4 +1,5 @@
-//! How numbers compare with 0: all others, two sets of them, and what two ends say.
+//! How numbers compare with 0: the numbers that satisfy a comparison, the others, and whether the ends of an
+//! interval decide it.
 #![tactic(auto)]
 
 mod ends;

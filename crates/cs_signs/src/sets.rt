@@ -1,4 +1,4 @@
-//! The numbers that compare with 0 in one way, and all others.
+//! The numbers that satisfy a comparison with 0, and all others.
 ghost use Rattle.std.specs.Prelude.{◌≡◌, ℤ, pos, not, IfOk};
 ghost use Rattle.cs_ranges.specs.Interval.{IsInside};
 ghost use Rattle.cs_ranges.specs.RangeSet.{contains};
@@ -9,14 +9,14 @@ use cs_ast::typed::operator::CmpOp;
 use cs_ranges::{GREATEST, LEAST, RangeSet};
 use std::alloc::{AllocError, Global};
 
-/// The numbers that compare with 0 in one way, and all others.
+/// The numbers that satisfy a comparison with 0, and all others.
 #[derive(Drop)]
 pub struct BySign {
     pub with: RangeSet,
     pub without: RangeSet,
 }
 
-/// All numbers that a set can have, by whether they compare so with 0.
+/// Splits all numbers that a set can have by a comparison with 0.
 pub fn by_sign(alloc: Global, op: CmpOp) -> Result<BySign, AllocError>
     ensures with { IfOk result (λ sets. (x : ℤ) → IsInside x
         → contains sets.with x ≡ compares op x (pos 0)) }
@@ -28,7 +28,7 @@ pub fn by_sign(alloc: Global, op: CmpOp) -> Result<BySign, AllocError>
     Ok(BySign { with, without })
 }
 
-// The numbers that compare so with 0.
+// Returns the numbers that satisfy a comparison with 0.
 fn numbers_with(alloc: Global, op: CmpOp) -> Result<RangeSet, AllocError>
     ensures { IfOk result (λ set. (x : ℤ) → IsInside x
         → contains set x ≡ compares op x (pos 0)) }
@@ -43,7 +43,7 @@ fn numbers_with(alloc: Global, op: CmpOp) -> Result<RangeSet, AllocError>
     }
 }
 
-// The numbers below 0 and those above.
+// Returns the numbers below 0 and those above.
 fn other_than_zero(alloc: Global) -> Result<RangeSet, AllocError>
     ensures { IfOk result (λ set. (x : ℤ) → IsInside x
         → contains set x ≡ compares CmpOp.Differs x (pos 0)) }
@@ -53,7 +53,7 @@ fn other_than_zero(alloc: Global) -> Result<RangeSet, AllocError>
     below.union(&above)
 }
 
-/// The comparison that holds exactly where this one doesn't.
+/// Returns the comparison that holds exactly if this one doesn't.
 pub(crate) fn opposite(op: CmpOp) -> CmpOp
     ensures truth { (x y : ℤ) → compares result x y ≡ not (compares op x y) }
     ensures same { result ≡ opposite_of op }

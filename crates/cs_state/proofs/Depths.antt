@@ -1,4 +1,4 @@
--- The list of the frames below a depth: for the contracts of `Callers`.
+-- The list of the frames at lower depths: for the contracts of `Callers`.
 use Rattle.std.proofs.Common.{◌≡◌, ◌≢◌, ◌+◌, ◌-◌, ◌<◌, ◌≤◌, ℕ, zero, suc, ◌∷◌, Some, length, reverse, get_or, slice_get, refl, sym, ap, ◌∙◌}
 use Rattle.std.proofs.Common.{arith}
 use Rattle.std.specs.Option.{unwrap_or}

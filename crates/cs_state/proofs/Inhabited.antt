@@ -1,4 +1,4 @@
--- Each type holds 0, and its ends lie inside the bounds of ranges: for the contract of `receive_number`.
+-- Each type has 0, and its ends are inside the bounds of sets: for the contract of `receive_number`.
 use Rattle.std.proofs.Common.{refl}
 use Rattle.std.specs.Prelude.{IsTrue, int_le, ◌&&◌, pos}
 use Rattle.cs_types.specs.declared.data_model.DataModel.{DataModel}

@@ -1,4 +1,4 @@
--- Objects and inputs by the numbers that tables give them: for the laws.
+-- The numbers of objects and inputs in tables: for the laws.
 use Rattle.std.proofs.Common.{◌≡◌, ◌≢◌, ℕ, zero, suc, Bool, true, false, cond, List, [], ◌∷◌, refl, sym, ap, ◌∙◌, subst, arith}
 use Rattle.std.proofs.Common.{true≢false, nat_eq}
 use Rattle.std.specs.Prelude.{Option, None, Some, is_some, slice_get, option_map, ◌&&◌}

@@ -1,4 +1,4 @@
--- Places of elements in lists that were mapped: for the contract of `place_of`.
+-- Indexes of elements in mapped lists: for the contract of `place_of`.
 use Rattle.std.proofs.Common.{◌≡◌, ◌≢◌, ◌<◌, ◌≤◌, ◌+◌, ℕ, Bool, true, false, List, map, length, refl, sym, ap, ◌∙◌, subst}
 use Rattle.std.proofs.Common.{arith, true≢false, inl, inr}
 use Rattle.std.specs.Prelude.{Some, slice_get, slice_index_or, option_map}

@@ -1,4 +1,4 @@
--- Cells that were read are kept under numbers beside zeros: for the invariant of `ReadCells`.
+-- The second number of each key of `ReadCells` is 0: for its invariant.
 use Rattle.std.proofs.Common.{◌≡◌, ℕ, Bool, true, false, cond, List, [], ◌∷◌, refl, sym, ap, ◌∙◌, subst}
 use Rattle.std.specs.Prelude.{Option, None, Some}
 use Rattle.std.specs.FinMap as finite

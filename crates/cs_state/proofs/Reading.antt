@@ -1,4 +1,4 @@
--- The cells that were read, after one more was, or one was written: for the contracts of `ReadCells`.
+-- The cells that were read, after one more is read or one is written: for the contracts of `ReadCells`.
 use Rattle.std.proofs.Common.{◌≡◌, ◌≢◌, ◌⊎◌, ℕ, nat_eq, ◌+◌, ◌<◌, List, [], ◌∷◌, drop, get_or, length, Bool, true, false, cond}
 use Rattle.std.proofs.Common.{refl, sym, ap, ◌∙◌, subst, inl, inr}
 use Rattle.std.specs.Prelude.{Option, None, Some}

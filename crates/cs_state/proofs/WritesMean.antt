@@ -1,4 +1,4 @@
--- What writes are in what a state stands for: for the contracts of `push`, `count_visit` and `narrowed`.
+-- How writes change what a state represents: for the contracts of `push`, `count_visit` and `narrowed`.
 use Rattle.std.proofs.Common.{◌≡◌, ℕ, List, [], ◌∷◌, ◌++◌, map, refl, sym, ap, ◌∙◌}
 use Rattle.std.specs.Prelude.{reverse, slice_set}
 use Rattle.cs_constraints.specs.Constraints.{Sets}

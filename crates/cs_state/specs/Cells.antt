@@ -1,4 +1,4 @@
--- What values and temporaries are under a valuation.
+-- The cells of values and the operands of temporaries, under a valuation.
 use Rattle.std.specs.Prelude.{ℕ, ℤ, pos, Bool, false, List, map, Option, None, Some, slice_get, option_map, if◌then◌else◌}
 use Rattle.std.specs.FinMap as finite
 use Rattle.cs_pmap.specs.Keys.{key_cmp}
@@ -22,7 +22,7 @@ Blocks = finite.FinMap key_cmp Block
 abbrev pub block_of : Blocks → ℕ → Option Block
 block_of blocks base = finite.get blocks (base, 0)
 
--- the object that a base region is
+-- the object of a base region
 abbrev pub object_of : Base → Object
 object_of (Entry path) = StartBlock path
 object_of (Global global) = GlobalObject global
@@ -30,18 +30,18 @@ object_of (Literal literal) = LiteralObject literal
 object_of (Local frame declaration) = LocalObject frame declaration
 object_of (Heap allocation) = HeapBlock allocation
 
--- a pointer to an offset of a base region; a number without a base region points nowhere
+-- a pointer to an offset of a base region; unset if the number has no base region
 abbrev pub pointer_to : Option Base → ℤ → Cell
 pointer_to None offset = UnsetCell
 pointer_to (Some base) offset = PointerCell (object_of base) offset
 
--- whether a block is there: its symbol's number isn't 0
+-- whether a block exists: its symbol's number isn't 0
 abbrev pub is_there : Valuation → Option Block → Bool
 is_there valuation None = false
 is_there valuation (Some block) = is_true (valuation block.sym.0)
 
 module _ (bases : List Base) (blocks : Blocks) (valuation : Valuation) where
-  -- a pointer that wasn't looked at yet is null where its block isn't there
+  -- a pointer that no test has decided yet is null if its block doesn't exist
   abbrev pub cell_of : Value → Cell
   cell_of (value.Number term) = NumberCell (value_of valuation term)
   cell_of value.Null = NullCell

@@ -1,4 +1,4 @@
--- What is so of all tables: the input at a path has the number of its symbol, and an object the number of its base region.
+-- What holds for all tables: the input at a path has the number of its symbol, and an object the number of its base region.
 use Rattle.std.specs.Prelude.{◌≡◌, ℕ, List, Some, slice_get}
 use Rattle.cs_inputs.specs.declared.path.Path.{Path}
 use Rattle.cs_terms.specs.declared.symbol.SymName.{SymName}
@@ -12,17 +12,17 @@ use Rattle.cs_state.specs.Valuations.{input_of}
 use Rattle.cs_state.specs.Cells.{object_of}
 use Rattle.cs_state.specs.Objects.{number_of}
 
--- in the run of a valuation, the input at a path is the number of the symbol that stands for it
+-- in the run of a valuation, the input at a path is the number of the symbol that represents it
 abbrev pub InputsAreTheirSymbols : Type 0
 InputsAreTheirSymbols = (names : List SymName) (valuation : Valuation) (sym : ℕ) (path : Path) → HasEachOnce names
     → slice_get names sym ≡ Some (Input path) → input_of names valuation path ≡ valuation sym
 
--- the object that a base region is has the base region's number
+-- the object of a base region has the base region's number
 abbrev pub ObjectsAreNumbered : Type 0
 ObjectsAreNumbered = (bases : List Base) (number : ℕ) (base : Base) → IsNumbered bases → slice_get bases number ≡ Some base
     → number_of bases (object_of base) ≡ Some number
 
--- a number that an object has is that of a base region that it is
+-- if an object has a number, then the base region with this number is the object's
 abbrev pub NumbersAreOfObjects : Type 0
 NumbersAreOfObjects = (bases : List Base) (object : Object) (number : ℕ) → number_of bases object ≡ Some number
     → (base : Base) × (slice_get bases number ≡ Some base) × (object_of base ≡ object)

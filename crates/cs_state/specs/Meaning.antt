@@ -1,4 +1,4 @@
--- What a state stands for: under a valuation it is a state of the run of the code, in which the operation in progress has had some answers.
+-- What a state represents: under a valuation, a state of the run of the code, and some answers to the operation in progress.
 use Rattle.std.specs.Prelude.{◌≡◌, ℕ, List, ◌∷◌, map, reverse, length}
 use Rattle.cs_terms.specs.Term.{Valuation, value_of}
 use Rattle.cs_constraints.specs.Constraints.{Fits}
@@ -20,7 +20,7 @@ use Rattle.cs_state.specs.Cells.{operand_of}
 use Rattle.cs_state.specs.Objects.{owner, memory_of}
 
 module _ (code : Code) (names : Naming) where
-  -- a frame of the run of the code: the newest temporary stands first there
+  -- a frame of the run of the code, where the newest temporary comes first
   abbrev pub frame_of : State → Valuation → Frame → CallFrame Point
   frame_of state valuation frame = record {
     function = frame.spot.function;
@@ -41,13 +41,13 @@ module _ (code : Code) (names : Naming) where
     calls = state.counters.calls;
   }
 
-  -- what is left of that operation after the answers
+  -- what remains of that operation after the answers
   abbrev pub left_in : TypedProgram → RunBudgets → State → Valuation → Act CodeState
   left_in program budgets state valuation =
       left_of (cell_read state.model names.syms valuation) (map (value_of valuation) state.answers)
       (code_step code program budgets (meaning program state valuation))
 
--- what the run of a valuation goes by
+-- the setting of the run of a valuation
 abbrev pub setting_of : Naming → RunBudgets → State → Valuation → Setting
 setting_of names budgets state valuation = record {
   model = state.model;
@@ -56,7 +56,7 @@ setting_of names budgets state valuation = record {
   budgets = budgets;
 }
 
--- the state stands for a run's position under a valuation that fits: this is left to be done after what the log has
+-- the state represents a run's position under a valuation that fits: after the events of the log, this act remains
 pub record StandsFor (code : Code) (program : TypedProgram) (budgets : RunBudgets) (names : Naming) (state : State) (valuation : Valuation)
     (act : Act CodeState) (log : Log) : Type 0 where
   pub fits : Fits valuation state.constraints

@@ -1,4 +1,4 @@
--- What writes to a state are in what it stands for.
+-- How writes to a state change what it represents.
 use Rattle.std.specs.Prelude.{◌≡◌, ℕ}
 use Rattle.cs_terms.specs.Term.{Valuation}
 use Rattle.cs_ast.specs.TypedProgram.{TypedProgram}
@@ -17,7 +17,7 @@ MeansPushed temporary before after = (code : Code) (names : Naming) (program : T
     meaning code names program after valuation
     ≡ push (operand_of names.bases before.blocks valuation temporary) (meaning code names program before valuation)
 
--- under each valuation, a counted point was reached so often there
+-- under each valuation, a counted point has this count in the state of the code's run
 abbrev pub MeansVisited : ℕ → ℕ → State → State → Type 0
 MeansVisited counted_point count before after = (code : Code) (names : Naming) (program : TypedProgram) (valuation : Valuation) →
     meaning code names program after valuation ≡ with_visits counted_point count (meaning code names program before valuation)

@@ -1,4 +1,4 @@
--- What the numbers in states name: symbols, base regions and types, by their places in the tables.
+-- What the numbers in states name: symbols, base regions and types, by their indexes in the tables.
 use Rattle.std.specs.Prelude.{◌≡◌, ℕ, List, Some, slice_get}
 use Rattle.indexmap.specs.IndexMap.{keys}
 use Rattle.cs_types.specs.Shape.{Shape}
@@ -14,7 +14,7 @@ pub record Naming : Type 0 where
 abbrev pub naming : Tables → Naming
 naming tables = record { syms = keys tables.syms.names; bases = keys tables.bases.names; types = tables.types }
 
--- what has a place keeps it
+-- what has an index keeps it
 abbrev pub KeepsPlaces : {Name : Type 0} → List Name → List Name → Type 0
 KeepsPlaces {Name} before after = (place : ℕ) (name : Name) → slice_get before place ≡ Some name → slice_get after place ≡ Some name
 

@@ -1,5 +1,5 @@
--- The memory that a state stands for under a valuation. An object is there as the program or the state's blocks say, and holds what the
--- store has for it: what was bound at an offset, else what it was filled with, else what it held at first.
+-- The memory that a state represents under a valuation. The program or the state's blocks determine whether an object exists. It holds what
+-- the store has for it: what was bound at an offset, else what it was filled with, else what it held at first.
 use Rattle.std.specs.Prelude.{◌≡◌, ℕ, suc, ◌==◌, Bool, List, [], ◌∷◌, map, Option, None, Some, slice_get, option_map, unwrap_or}
 use Rattle.std.specs.Prelude.{if◌then◌else◌}
 use Rattle.std.specs.Option.{option_and_then}
@@ -24,7 +24,7 @@ use Rattle.cs_state.specs.declared.frame.Frame.{Frame}
 use Rattle.cs_state.specs.Naming.{Naming}
 use Rattle.cs_state.specs.Cells.{Blocks, block_of, object_of, is_there, cell_of}
 
--- the number of the base region that an object is, where it has one
+-- the number of the base region of an object, if it has one
 abbrev pub number_of : List Base → Object → Option ℕ
 number_of [] object = None
 number_of (base ∷ bases) object = if same_object object (object_of base) then Some 0 else option_map suc (number_of bases object)
@@ -42,7 +42,7 @@ abbrev pub owner_numbered : ℕ → List Owner → Option Owner
 owner_numbered number [] = None
 owner_numbered number (it ∷ owners) = if it.number == number then Some it else owner_numbered number owners
 
--- a local of a frame that is there, nothing of which is set
+-- a local of a frame in the call stack, with nothing set
 abbrev pub local_of : TypedProgram → Owner → ℕ → Option Block
 local_of program it declaration = option_map (local_block program None) (slice_get (routine_of program it.function).variables declaration)
 
@@ -68,25 +68,25 @@ fill_over fill.Input first = first
 fill_over fill.Zero first = ZeroFill
 fill_over (fill.Wrote call argument) first = InputFill (wrote_path call argument)
 
--- an object after the writes that the store has of it
+-- an object after the writes that the store has for it
 abbrev pub written_over : (Value → Cell) → Contents → Block → Block
 written_over cell contents block = record block {
   fill = fill_over contents.fill block.fill;
   written = λ offset. option_map cell (finite.get contents.direct (offset, 0));
 }
 
--- what the store has of a base region; nothing of an object without a number
+-- what the store has for a base region; nothing for an object without a number
 abbrev pub contents_in : Regions → Option ℕ → Contents
 contents_in store None = filled fill.Unset
 contents_in store (Some base) = contents_of store base
 
 module _ (program : TypedProgram) (names : Naming) (owners : List Owner) (blocks : Blocks) (valuation : Valuation) where
-  -- a start block or a heap block with a base region's number, if it is there
+  -- a start block or a heap block with a base region's number, if it exists
   abbrev pub block_there : Object → ℕ → Option Block
   block_there object base =
       if is_there valuation (block_of blocks base) then option_map (made_block names.types valuation object) (block_of blocks base) else None
 
-  -- an object to which nothing was written since it is there
+  -- an object to which nothing was written since it exists
   abbrev pub unwritten : Memory
   unwritten (StartBlock path) = option_and_then (block_there (StartBlock path)) (number_of names.bases (StartBlock path))
   unwritten (GlobalObject global) = static_memory program (GlobalObject global)

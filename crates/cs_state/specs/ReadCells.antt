@@ -9,11 +9,11 @@ use Rattle.cs_pmap.specs.Keys.{key_cmp, EntryList}
 use Rattle.cs_store.specs.declared.value.Value.{Value}
 use Rattle.cs_terms.specs.declared.symbol.Sym.{Sym}
 
--- symbols, keyed by an offset beside a zero
+-- symbols, keyed by an offset and 0
 abbrev pub SymMap : Type 0
 SymMap = finite.FinMap key_cmp Sym
 
--- such maps, keyed by a base region's number beside a zero
+-- such maps, keyed by a base region's number and 0
 abbrev pub ReadMap : Type 0
 ReadMap = finite.FinMap key_cmp SymMap
 
@@ -34,15 +34,15 @@ cells_of read base = unwrap_or (finite.get read (base, 0)) finite.empty
 abbrev pub read_at : ReadMap → ℕ → ℕ → Option Sym
 read_at read base offset = finite.get (cells_of read base) (offset, 0)
 
--- each symbol is kept under an offset beside a zero
+-- the second number of each key is 0
 abbrev pub AreOffsets : SymMap → Type 0
 AreOffsets cells = (key : ℕ × ℕ) (sym : Sym) → finite.get cells key ≡ Some sym → key.1 ≡ 0
 
--- each base region and each cell is kept under a number beside a zero
+-- the second number of each key is 0, for base regions and for cells
 abbrev pub HasPlainCells : ReadMap → Type 0
 HasPlainCells read = (key : ℕ × ℕ) (cells : SymMap) → finite.get read key ≡ Some cells → (key.1 ≡ 0) × AreOffsets cells
 
--- offsets with their symbols as entries, keyed by the offset beside a zero
+-- offsets with their symbols as entries, keyed by the offset and 0
 abbrev pub keyed : List (ℕ × Sym) → EntryList Sym
 keyed cells = map (λ cell. ((cell.0, 0), cell.1)) cells
 

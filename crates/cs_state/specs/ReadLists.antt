@@ -14,10 +14,10 @@ cell_at base entry = record { base = base; offset = entry.0.0; sym = entry.1 }
 abbrev pub cells_at : ℕ → SymMap → List ReadCell
 cells_at base cells = map (cell_at base) (finite.entries cells)
 
--- the same, of an entry of all base regions
+-- the same, for an entry of the map of base regions
 abbrev pub cells_of_entry : (ℕ × ℕ) × SymMap → List ReadCell
 cells_of_entry entry = cells_at entry.0.0 entry.1
 
--- those of all base regions
+-- the cells of all base regions
 abbrev pub cells_in_order : ReadMap → List ReadCell
 cells_in_order read = flat_map cells_of_entry (finite.entries read)

@@ -42,7 +42,7 @@ use Rattle.cs_state.specs.Cells.{block_of}
 use Rattle.cs_state.specs.Writes.{with_constraints, with_blocks, with_memory}
 use Rattle.cs_state.specs.Meaning.{meaning}
 
--- no size passes the bounds in what the variables point to
+-- the types that the variables point to have sizes within the bounds
 abbrev pub HaveSizes : TypedProgram → List Variable → Type 0
 HaveSizes program variables = (number : ℕ) (v : Variable) (target : Shape) → slice_get variables number ≡ Some v → v.ty ≡ pointer target
     → HasSmallSizes program.model program.table target
@@ -51,13 +51,13 @@ HaveSizes program variables = (number : ℕ) (v : Variable) (target : Shape) →
 abbrev pub HasSizes : TypedProgram → Shape → Type 0
 HasSizes program shape = (target : Shape) → shape ≡ pointer target → HasSmallSizes program.model program.table target
 
--- no two variables have one name
+-- no two variables have the same name
 abbrev pub DifferInName : List Variable → Type 0
 DifferInName variables = (one other : ℕ) (v w : Variable) → slice_get variables one ≡ Some v → slice_get variables other ≡ Some w
     → v.name ≡ w.name
     → one ≡ other
 
--- a type is one of pointers
+-- a type is a pointer type
 abbrev pub IsPointer : Shape → Type 0
 IsPointer shape = (target : Shape) × (shape ≡ pointer target)
 
@@ -65,7 +65,7 @@ IsPointer shape = (target : Shape) × (shape ≡ pointer target)
 abbrev pub path_of : List ℕ → Path
 path_of name = record { root = Param name; cells = [] }
 
--- the first frame, in which a function begins
+-- the first frame of a run, at the beginning of a function
 abbrev pub frame_in : ℕ → Flow → Frame
 frame_in entry flow = record {
   number = 0;
@@ -89,14 +89,14 @@ pub record IsFresh (code : Code) (model : DataModel) (entry : ℕ) (state : Stat
   pub phase : state.phase ≡ 0
   pub result : state.result ≡ None
 
--- a symbol as a term, and a number as one
+-- a symbol and a number as terms
 abbrev pub own : Sym → Lin
 own sym = record { sym = Some sym; slope = pos 1; at = pos 0; value = pos 0 }
 
 abbrev pub constant : ℤ → Lin
 constant number = record { sym = None; slope = pos 0; at = pos 0; value = number }
 
--- a start block of so many bytes
+-- a start block of a size in bytes
 abbrev pub start_block_of : ℕ → TypeNumber → Sym → Block
 start_block_of bytes element sym = record { extent = constant (pos bytes); standing = Live; element = element; sym = sym; made_by = 0 }
 
@@ -113,21 +113,21 @@ module _ (names : Naming) where
     pub ranges : Ranges path range sym after
     pub elsewhere : (other : ℕ) → other ≢ sym.0 → set_of after.constraints other ≡ set_of before.constraints other
 
-  -- the base region after the pointer with a path, which has so many bytes of elements of a type
+  -- the base region that the pointer with a path points to, with its size in bytes and the type of its elements
   pub record IsAfter (path : Path) (element : Shape) (bytes : ℕ) (sym : Sym) (base : ℕ) (block : Block) : Type 0 where
     pub named : slice_get names.bases base ≡ Some (Entry path)
     pub number : TypeNumber
     pub typed : slice_get names.types number.0 ≡ Some element
     pub block_is : block ≡ start_block_of bytes number sym
 
-  -- an integer was given
+  -- the input yielded an integer
   pub record GivesNumber (path : Path) (range : ℤ × ℤ) (value : Value) (before after : State) : Type 0 where
     pub sym : Sym
     pub value_is : value ≡ values.Number (own sym)
     pub declares : Declares path range sym before after
     pub rest : after ≡ with_constraints after.constraints before
 
-  -- a pointer was given: its block is there if the pointer isn't null
+  -- the input yielded a pointer: its block exists if the pointer isn't null
   pub record GivesPointer (path : Path) (element : Shape) (bytes : ℕ) (value : Value) (before after : State) : Type 0 where
     pub sym : Sym
     pub base : ℕ
@@ -137,13 +137,13 @@ module _ (names : Naming) where
     pub is_after : IsAfter path element bytes sym base block
     pub rest : after ≡ with_blocks (finite.insert before.blocks (base, 0) block) (with_constraints after.constraints before)
 
-  -- a number of the range is what an integer parameter holds
+  -- an integer parameter holds a number of the range
   pub record HoldsNumber (path : Path) (range : ℤ × ℤ) (value : Value) (state : State) : Type 0 where
     pub sym : Sym
     pub value_is : value ≡ values.Number (own sym)
     pub ranges : Ranges path range sym state
 
-  -- null or a start block is what a pointer parameter holds
+  -- a pointer parameter holds null or a pointer to a start block
   pub record HoldsPointer (path : Path) (element : Shape) (bytes : ℕ) (value : Value) (state : State) : Type 0 where
     pub sym : Sym
     pub base : ℕ
@@ -153,20 +153,20 @@ module _ (names : Naming) where
     pub is_after : IsAfter path element bytes sym base block
     pub there : block_of state.blocks base ≡ Some block
 
--- one of the first so many parameters
+-- one of the first `count` parameters
 pub record IsParameter (variables : List Variable) (count : ℕ) (v : Variable) (number : ℕ) : Type 0 where
   pub early : number < count
   pub there : slice_get variables number ≡ Some v
 
 module _ (program : TypedProgram) (names : Naming) where
-  -- the input at a path gave a value of a type
+  -- the input at a path yielded a value of a type
   abbrev pub Gives : Shape → Path → Option ℕ → Value → State → State → Type 0
   Gives (integer ty) path count value before after = GivesNumber names path (numbers_of program.model ty) value before after
   Gives (pointer target) path count value before after =
       GivesPointer names path (element_of target) (start_extent program (element_of target) count) value before after
   Gives other path count value before after = (value ≡ values.Unset) × (after ≡ before)
 
-  -- a parameter with a number was given its input
+  -- the parameter with a number received its input
   pub record Receives (number : ℕ) (v : Variable) (before after : State) : Type 0 where
     pub value : Value
     pub between : State
@@ -179,14 +179,14 @@ module _ (program : TypedProgram) (names : Naming) where
     pub read : (b o : ℕ) → (b ≢ base) ⊎ (o ≢ 0) → read_at after.read b o ≡ read_at between.read b o
     pub rest : after ≡ with_memory after.store after.read between
 
-  -- a value is what the input at a path may give
+  -- a value is one that the input at a path may yield
   abbrev pub HoldsValue : Shape → Path → Option ℕ → Value → State → Type 0
   HoldsValue (integer ty) path count value state = HoldsNumber names path (numbers_of program.model ty) value state
   HoldsValue (pointer target) path count value state =
       HoldsPointer names path (element_of target) (start_extent program (element_of target) count) value state
   HoldsValue other path count value state = value ≡ values.Unset
 
-  -- a parameter with a number holds what its input may give
+  -- the parameter with a number holds what its input may yield
   pub record HoldsInput (number : ℕ) (v : Variable) (state : State) : Type 0 where
     pub value : Value
     pub base : ℕ
@@ -194,7 +194,7 @@ module _ (program : TypedProgram) (names : Naming) where
     pub here : held state.store base 0 ≡ Direct value
     pub holds : HoldsValue v.ty (parameter_path v) v.block value state
 
-  -- the first so many parameters hold their inputs, and nothing else is known or was read
+  -- the first `count` parameters hold their inputs, and nothing else is known or was read
   pub record HasReceived (variables : List Variable) (count : ℕ) (state : State) : Type 0 where
     pub each : (number : ℕ) (v : Variable) → IsParameter variables count v number → HoldsInput number v state
     pub bound : (b o : ℕ) (value : Value) → held state.store b o ≡ Direct value
@@ -219,7 +219,7 @@ pub record IsStart (code : Code) (program : TypedProgram) (entry : ℕ) (names :
   pub result : state.result ≡ None
   pub received : HasReceived program names (parameters_of (routine_of program entry)) (length (parameters_of (routine_of program entry))) state
 
--- the state stands for the beginning of all runs of an entry: under each valuation that fits for the beginning of its run, and each run's
+-- the state represents the beginning of all runs of an entry: under each valuation that fits, the beginning of its run, and each run's
 -- beginning is one of these
 pub record StartsFrom (code : Code) (program : TypedProgram) (entry : ℕ) (names : Naming) (state : State) : Type 0 where
   pub answers : state.answers ≡ []

@@ -21,18 +21,18 @@ use Rattle.cs_state.specs.declared.temporary.Temporary.TheVariants as temporary
 use Rattle.cs_state.specs.ReadCells.{read_at}
 use Rattle.cs_state.specs.Cells.{Blocks, block_of}
 
--- the number is in the range of the symbol; any number is where there is no symbol
+-- the number is in the set of the symbol; any number, without a symbol
 abbrev pub MayBe : Sets → Option Sym → ℤ → Type 0
 MayBe sets None number = Unit {0}
 MayBe sets (Some sym) number = (set : List Interval) × (set_of sets sym.0 ≡ Some set) × IsTrue (contains set number)
 
--- a term, constants too, that a state may hold
+-- a term that a state may hold, constants included
 pub record IsHeldTerm (sets : Sets) (term : Lin) : Type 0 where
   pub is_term : IsTerm term
   pub declared : IsDeclared sets term.sym
   pub values : (number : ℤ) → MayBe sets term.sym number → IsIntegerOfC (value_at term number)
 
--- a start block with its block state
+-- a base region with a block
 abbrev pub HasBlock : Blocks → ℕ → Type 0
 HasBlock blocks base = (block : Block) × (block_of blocks base ≡ Some block)
 

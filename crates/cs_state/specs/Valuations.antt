@@ -1,5 +1,5 @@
--- The run of a valuation: its inputs are the numbers of the symbols that stand for inputs, and its guesses those of the symbols that stand
--- for guesses.
+-- The run of a valuation: its inputs are the numbers of the symbols that represent inputs, and its guesses those of the symbols that
+-- represent guesses.
 use Rattle.std.specs.Prelude.{ℕ, suc, ℤ, pos, Bool, false, List, [], ◌∷◌, map, if◌then◌else◌}
 use Rattle.std.specs.FinMap as finite
 use Rattle.cs_pmap.specs.Keys.{key_cmp}
@@ -15,22 +15,22 @@ use Rattle.cs_events.specs.InputCells.{input_cell}
 use Rattle.cs_events.specs.Objects.{Cell, is_equal}
 use Rattle.cs_state.specs.declared.asked.Asked.{Asked}
 
--- whether a symbol with this name stands for the input at a path
+-- whether a symbol with this name represents the input at a path
 abbrev pub is_input_at : Path → SymName → Bool
 is_input_at path (Input other) = is_equal (path_order path other)
 is_input_at path (GuessAt event) = false
 
--- the number of the input at a path: that of the symbol that stands for it, 0 where none does
+-- the number of the input at a path: that of the symbol that represents it, or 0 if none does
 abbrev pub input_of : List SymName → Valuation → Path → ℤ
 input_of [] valuation path = pos 0
 input_of (name ∷ names) valuation path =
     if is_input_at path name then valuation 0 else input_of names (λ symbol. valuation (suc symbol)) path
 
--- the cell that the input at a path gives where a scalar of a kind is read from it
+-- the cell of the input at a path, read as a scalar of a kind
 abbrev pub cell_read : DataModel → List SymName → Valuation → Path → InputKind → Cell
 cell_read model names valuation path kind = input_cell model path kind (input_of names valuation path)
 
--- the guesses, by the events at which something was guessed
+-- the guesses, keyed by the guessed event and 0
 abbrev pub Guessed : Type 0
 Guessed = finite.FinMap key_cmp Asked
 

@@ -57,7 +57,7 @@ with_phase phase state = record state { phase = phase }
 abbrev pub with_result : Option Value → State → State
 with_result result state = record state { result = result }
 
--- the blocks once one of them was freed
+-- the blocks after one of them was freed
 abbrev pub freed_at : Blocks → ℕ → Option Block → Blocks
 freed_at blocks base None = blocks
 freed_at blocks base (Some block) = finite.insert blocks (base, 0) (record block { standing = Freed })
@@ -65,12 +65,12 @@ freed_at blocks base (Some block) = finite.insert blocks (base, 0) (record block
 abbrev pub released : Blocks → ℕ → Blocks
 released blocks base = freed_at blocks base (block_of blocks base)
 
--- the nearest caller goes on, or there is none and nothing has changed
+-- the nearest caller continues, or there is none and nothing has changed
 abbrev pub IsLeft : Bool → State → State → Type 0
 IsLeft true before after = (frame : Frame) × (slice_get before.callers 0 ≡ Some frame) × (after ≡ in_frame frame (drop 1 before.callers) before)
 IsLeft false before after = (before.callers ≡ []) × (after ≡ before)
 
--- the state with what another knows: what memory holds, and what numbers its symbols may have
+-- a state with the knowledge of another: what memory holds, and what numbers its symbols may have
 abbrev pub with_known : State → State → State
 with_known other state =
     record state { store = other.store; blocks = other.blocks; read = other.read; constraints = other.constraints }

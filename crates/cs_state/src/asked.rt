@@ -1,4 +1,4 @@
-//! What the guesses of a path were asked for.
+//! The operations that a path guesses.
 
 use cs_ast::typed::operator::{BinOp, CmpOp};
 use cs_ranges::Interval;
@@ -23,22 +23,23 @@ pub enum Asks {
     Difference,
 }
 
-/// What a guessed comparison or order test says: its own result is 1 exactly where the term compares so with 0.
+/// When the own result of a guessed comparison or order test is 1: exactly where this comparison of the term
+/// with 0 holds.
 #[derive(Clone, Copy)]
 pub struct Fact {
     pub op: CmpOp,
     pub term: Lin2,
 }
 
-/// The numbers that the symbols of both operands may have directly before the event, each from the least to the greatest; 0 to 0 where an
-/// operand has no symbol.
+/// The least and the greatest number that the symbol of each operand may have directly before the event; both
+/// are 0 for an operand without a symbol.
 #[derive(Clone, Copy)]
 pub struct Ends {
     pub left: Interval,
     pub right: Interval,
 }
 
-/// A guess: its event, its symbol, and the operation whose result it stands for.
+/// A guess: its event, its symbol, and the operation whose result it replaces.
 #[derive(Clone, Copy)]
 pub struct Asked {
     pub event: u64,
@@ -48,6 +49,6 @@ pub struct Asked {
     pub left: Lin,
     pub right: Lin,
     pub ends: Ends,
-    /// There for a guessed comparison, and for an order test other than that of `calloc`.
+    /// Present for a guessed comparison, and for an order test other than that of `calloc`.
     pub fact: Option<Fact>,
 }

@@ -7,16 +7,17 @@ use cs_terms::{Lin, Sym};
 #[derive(Clone, Copy, PartialEq, Eq)]
 pub struct TypeNumber(pub u64);
 
-/// A start block or a heap block. The extent and the type of any other object are the program's.
+/// A start block or a heap block. The program determines the extent and the type of any other object.
 #[derive(Clone, Copy)]
 pub struct Block {
-    /// Its bytes.
+    /// Its size in bytes.
     pub extent: Lin,
     pub standing: Standing,
     /// The type of its elements.
     pub element: TypeNumber,
-    /// The symbol whose number isn't 0 where the block is there: of the pointer that names a start block, of the allocation of a heap block.
+    /// The symbol whose number isn't 0 exactly if the block exists: that of the pointer to a start block, or
+    /// of the allocation of a heap block.
     pub sym: Sym,
-    /// The number of the event that allocated a heap block; 0 of a start block.
+    /// The number of the event that allocated a heap block; 0 for a start block.
     pub made_by: u64,
 }

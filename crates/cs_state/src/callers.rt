@@ -1,4 +1,4 @@
-//! The frames that wait for a call to end.
+//! The call stack below the running frame.
 ghost use Rattle.std.specs.Prelude.{◌≡◌, ◌≤◌, [], ◌∷◌, length, drop, reverse, slice_get, None, Some, IfSome, IfOk, OnOk, OnErr};
 
 use crate::frame::Frame;
@@ -22,7 +22,7 @@ impl Model for SharedFrame {
 }
 
 impl SharedFrame {
-    /// Shares a frame.
+    /// Makes a frame shareable.
     pub fn new(alloc: Global, frame: Frame) -> Result<SharedFrame, AllocError>
         ensures { IfOk result (λ shared. shared ≡ frame) }
     {
@@ -31,7 +31,7 @@ impl SharedFrame {
         })
     }
 
-    /// The frame.
+    /// Returns the frame.
     pub fn frame(&self) -> &Frame
         ensures { result.now ≡ self.now }
     {
@@ -49,10 +49,10 @@ impl Clone for SharedFrame {
     }
 }
 
-/// The frames that called the one that runs. A contract sees a list, the nearest first. Copies share the frames.
+/// The callers of the running frame. A contract sees a list, the nearest caller first. Copies share the frames.
 #[derive(Drop)]
 pub struct Callers {
-    // By depth beside a zero, the entry's at 0.
+    // Keyed by `(depth, 0)`; the entry's frame has depth 0.
     frames: PMap<SharedFrame>,
     depth: u64,
 }
@@ -69,7 +69,7 @@ impl Model for Callers {
 }
 
 impl Callers {
-    /// No frame waits.
+    /// Returns an empty call stack.
     pub fn new(alloc: Global) -> Callers
         ensures { result ≡ [] }
     {
@@ -79,14 +79,14 @@ impl Callers {
         }
     }
 
-    /// How many frames wait.
+    /// Returns the number of callers.
     pub fn depth(&self) -> u64
         ensures { result ≡ length self.now }
     {
         self.depth
     }
 
-    /// The frame that made the call that runs, where one did.
+    /// Returns the caller of the running frame, if there is one.
     pub fn nearest(&self) -> Option<&Frame>
         ensures { IfSome result (λ frame. slice_get self.now 0 ≡ Some frame.now) }
     {
@@ -97,7 +97,7 @@ impl Callers {
         }
     }
 
-    /// The frame at a depth, the entry's at 0, where it waits.
+    /// Returns the caller at a depth, if there is one; the entry's frame has depth 0.
     pub fn at(&self, depth: u64) -> Option<&Frame>
         ensures some { IfSome result (λ frame.
             slice_get (reverse self.now) depth ≡ Some frame.now) }
@@ -112,7 +112,7 @@ impl Callers {
         }
     }
 
-    /// The frame with a number, where it waits.
+    /// Returns the caller with a number, if there is one.
     pub fn numbered(&self, number: u64) -> Option<&Frame>
         ensures { IfSome result (λ frame. frame.now.number ≡ number) }
     {
@@ -126,7 +126,7 @@ impl Callers {
         None
     }
 
-    /// A frame waits for the call that it makes.
+    /// Adds a frame as the nearest caller.
     pub fn push(&mut self, frame: SharedFrame) -> Result<(), AllocError>
         ensures ok { OnOk result (self.new ≡ frame ∷ self.old) }
         ensures err { OnErr result (self.new ≡ self.old) }
@@ -139,7 +139,7 @@ impl Callers {
         Ok(())
     }
 
-    /// The nearest frame waits no longer, where one waits.
+    /// Removes the nearest caller, if there is one.
     pub fn drop_nearest(&mut self)
         ensures { self.new ≡ drop 1 self.old }
     {

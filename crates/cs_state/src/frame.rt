@@ -1,4 +1,4 @@
-//! The frames of a run.
+//! A frame of a run.
 
 use crate::temporary::Temporaries;
 use crate::visits::Visits;
@@ -10,7 +10,7 @@ use std::alloc::AllocError;
 pub struct Frame {
     /// The frame's number in the run.
     pub number: u64,
-    /// Where it stands in the code.
+    /// Its position in the code.
     pub spot: Spot,
     pub temporaries: Temporaries,
     /// How often each of the function's counted points was reached.

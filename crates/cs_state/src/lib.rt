@@ -1,6 +1,7 @@
-//! The states of the exploration: what is known of a run at a position, as terms over symbols with the ranges that they may have.
+//! The states of the exploration: what is known about a run at a position, as terms over symbols, and the
+//! numbers that these may have.
 //!
-//! What a state stands for is defined in `specs/`: under a valuation of its symbols it is a state of the run of the code.
+//! `specs/` defines what a state represents: under a valuation of its symbols it is a state of the run of the code.
 #![tactic(auto)]
 
 mod asked;

@@ -13,7 +13,7 @@ use cs_terms::Sym;
 use std::alloc::{AllocError, Global};
 use std::marker::Model;
 
-/// A cell that was read from an input, which has this symbol.
+/// A cell that was read from an input, with the symbol of the input.
 #[derive(Clone, Copy)]
 pub struct ReadCell {
     pub base: u64,
@@ -24,7 +24,7 @@ pub struct ReadCell {
 // The cells of one base region.
 #[derive(Drop)]
 pub(crate) struct Cells {
-    // By offset beside a zero.
+    // Keyed by `(offset, 0)`.
     syms: PMap<Sym>,
 }
 
@@ -48,12 +48,12 @@ impl Clone for Cells {
     }
 }
 
-/// The cells of base regions that were read from inputs and not written since, each with the symbol of its input. Copies share what they
-/// have in common.
+/// The cells of base regions that were read from inputs and not written since, each with the symbol of its
+/// input. Copies share their common parts.
 #[derive(Drop)]
 pub struct ReadCells {
     alloc: Global,
-    // By base region beside a zero. Each region has a map of its own, so that all its cells go at once.
+    // Keyed by `(base region, 0)`. Each region has its own map, so that all its cells can be removed at once.
     bases: PMap<Cells>,
 }
 
@@ -72,7 +72,7 @@ impl Model for ReadCells {
 }
 
 impl ReadCells {
-    /// No cell was read.
+    /// Returns a set without cells.
     pub fn new(alloc: Global) -> ReadCells
         ensures { (base offset : ℕ) → read_at result base offset ≡ None }
     {
@@ -82,7 +82,7 @@ impl ReadCells {
         }
     }
 
-    /// The symbol that was read at an offset of a base region.
+    /// Returns the symbol of the cell at an offset of a base region, if the cell was read.
     pub fn at(&self, base: u64, offset: u64) -> Option<Sym>
         ensures { result ≡ read_at self.now base offset }
     {
@@ -92,7 +92,7 @@ impl ReadCells {
         }
     }
 
-    /// A cell was read.
+    /// Adds a cell.
     pub fn add(&mut self, base: u64, offset: u64, sym: Sym) -> Result<(), AllocError>
         ensures here { OnOk result (read_at self.new base offset ≡ Some sym) }
         ensures elsewhere { OnOk result ((b o : ℕ) → (b ≢ base) ⊎ (o ≢ offset)
@@ -105,7 +105,7 @@ impl ReadCells {
         Ok(())
     }
 
-    /// Cells of a base region were read, one after another.
+    /// Adds cells of a base region, one after another.
     pub fn add_all(&mut self, base: u64, read: &[(u64, Sym)]) -> Result<(), AllocError>
         ensures here { OnOk result ((o : ℕ) → read_at self.new base o
             ≡ option_or (last_read read.now o) (read_at self.old base o)) }
@@ -120,7 +120,7 @@ impl ReadCells {
         Ok(())
     }
 
-    /// A cell was written.
+    /// Removes a cell, which was written.
     pub fn forget(&mut self, base: u64, offset: u64) -> Result<(), AllocError>
         ensures here { OnOk result (read_at self.new base offset ≡ None) }
         ensures elsewhere { OnOk result ((b o : ℕ) → (b ≢ base) ⊎ (o ≢ offset)
@@ -136,7 +136,7 @@ impl ReadCells {
         Ok(())
     }
 
-    /// The cells of these leaves were written.
+    /// Removes the cells of these leaves, which were written.
     pub fn forget_leaves(&mut self, base: u64, leaves: &[(u64, Value)]) -> Result<(), AllocError>
         ensures here { OnOk result ((o : ℕ) → read_at self.new base o
             ≡ (if has_leaf leaves.now o then None else read_at self.old base o)) }
@@ -152,7 +152,7 @@ impl ReadCells {
         Ok(())
     }
 
-    /// All cells of a base region were written.
+    /// Removes all cells of a base region, which was written as a whole.
     pub fn forget_all(&mut self, base: u64) -> Result<(), AllocError>
         ensures here { OnOk result ((o : ℕ) → read_at self.new base o ≡ None) }
         ensures elsewhere { OnOk result ((b o : ℕ) → b ≢ base
@@ -163,7 +163,7 @@ impl ReadCells {
         Ok(())
     }
 
-    /// All cells of these base regions were written.
+    /// Removes all cells of these base regions.
     pub fn forget_regions(&mut self, bases: &[u64]) -> Result<(), AllocError>
         ensures gone { OnOk result ((b o : ℕ) → Contains bases.now b
             → read_at self.new b o ≡ None) }
@@ -175,7 +175,7 @@ impl ReadCells {
         Ok(())
     }
 
-    /// The cells in order of base region and offset.
+    /// Returns the cells in order of base region and offset.
     pub fn in_order(&self) -> Result<Vec<ReadCell>, AllocError>
         ensures { IfOk result (λ cells. cells.items ≡ cells_in_order self.now) }
     {
@@ -186,7 +186,7 @@ impl ReadCells {
         Ok(list)
     }
 
-    /// The same cells.
+    /// Returns a copy.
     pub fn copy(&self) -> Result<ReadCells, AllocError>
         ensures { IfOk result (λ copy. copy ≡ self.now) }
     {
@@ -196,14 +196,14 @@ impl ReadCells {
         })
     }
 
-    /// Each base region and each cell is kept under a number beside a zero.
+    /// The second number of each key is 0, for base regions and for cells.
     pub fn has_plain_cells(&self)
         ensures { HasPlainCells self.now }
     {
         let _ = &self.bases;
     }
 
-    // Those of a base region.
+    // Returns a copy of the cells of a base region.
     fn cells(&self, base: u64) -> Result<Cells, AllocError>
         ensures { IfOk result (λ cells. cells ≡ cells_of self.now base) }
     {
@@ -216,7 +216,7 @@ impl ReadCells {
     }
 }
 
-// The cells of other base regions.
+// Returns the cells of all other base regions.
 fn without(cells: &PMap<Cells>, bases: &[u64]) -> Result<PMap<Cells>, AllocError>
     ensures others { IfOk result (λ others.
         (b : ℕ) → get others (b, 0)
@@ -231,7 +231,7 @@ fn without(cells: &PMap<Cells>, bases: &[u64]) -> Result<PMap<Cells>, AllocError
     Ok(others)
 }
 
-// The cells at other offsets than those of leaves.
+// Returns the cells except those at the offsets of leaves.
 fn without_leaves(syms: &PMap<Sym>, leaves: &[(u64, Value)]) -> Result<PMap<Sym>, AllocError>
     ensures others { IfOk result (λ others.
         (o : ℕ) → get others (o, 0)
@@ -246,7 +246,7 @@ fn without_leaves(syms: &PMap<Sym>, leaves: &[(u64, Value)]) -> Result<PMap<Sym>
     Ok(others)
 }
 
-// The cells as entries of a map.
+// Returns cells as entries of a map.
 fn keyed(alloc: Global, read: &[(u64, Sym)]) -> Result<Vec<((u64, u64), Sym)>, AllocError>
     ensures { IfOk result (λ entries. entries.items ≡ keyed read.now) }
 {
@@ -258,7 +258,7 @@ fn keyed(alloc: Global, read: &[(u64, Sym)]) -> Result<Vec<((u64, u64), Sym)>, A
 }
 
 impl Cells {
-    // The list with these cells of a base region after it.
+    // Appends these cells of a base region to a list.
     fn append_to(&self, list: &mut Vec<ReadCell>, base: u64) -> Result<(), AllocError>
         ensures { OnOk result (list.new.items ≡ list.old.items ++ cells_at base self.now) }
     {

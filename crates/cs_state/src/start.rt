@@ -43,7 +43,7 @@ use cs_types::{CType, DataModel, IntType};
 use std::alloc::{AllocError, Global};
 
 impl State {
-    /// The state of all runs of an entry at their beginning: its parameters hold any inputs.
+    /// Returns the state of all runs of an entry at their beginning: its parameters hold any inputs.
     pub fn start(
         alloc: Global,
         code: &Code,
@@ -68,7 +68,7 @@ impl State {
         Ok(state)
     }
 
-    // A state at the beginning of a function, in which nothing is known.
+    // Returns a state at the beginning of a function, in which nothing is known.
     fn fresh(alloc: Global, code: &Code, model: DataModel, entry: u32) -> Result<State, AllocError>
         ensures { IfOk result (IsFresh (graph.code code.now) model entry) }
     {
@@ -94,7 +94,7 @@ impl State {
         })
     }
 
-    // Parameters hold what their inputs give.
+    // Binds parameters to their inputs.
     fn receive_all(
         &mut self,
         alloc: Global,
@@ -118,7 +118,7 @@ impl State {
         Ok(())
     }
 
-    // A parameter holds what its input gives.
+    // Binds a parameter to its input.
     fn receive(
         &mut self,
         alloc: Global,
@@ -145,7 +145,7 @@ impl State {
         Ok(())
     }
 
-    // What the input of a parameter gives.
+    // Returns the value of a parameter's input.
     fn received(
         &mut self,
         alloc: Global,
@@ -178,7 +178,7 @@ impl State {
         }
     }
 
-    // An integer is any number of its type.
+    // Returns the symbol of an integer, which may have any number of its type.
     fn receive_number(
         &mut self,
         alloc: Global,
@@ -198,7 +198,7 @@ impl State {
         Ok(Value::Number(own(sym)))
     }
 
-    // A pointer is null, or names a block of its own.
+    // Returns a pointer that is null or points to a block of its own.
     fn receive_pointer(
         &mut self,
         alloc: Global,
@@ -221,7 +221,7 @@ impl State {
     }
 }
 
-// The function with a number.
+// Returns the function with a number.
 fn function_at(program: &Program, number: u32) -> Option<&Function>
     ensures { option_map (λ function. routine function.now) result
         ≡ slice_get (typed_program program.now).routines number }
@@ -229,7 +229,7 @@ fn function_at(program: &Program, number: u32) -> Option<&Function>
     program.functions.get(number as usize)
 }
 
-// The parameters of a function.
+// Returns the parameters of a function.
 fn parameters(function: &Function) -> &[Local]
     ensures { map variable result.now ≡ parameters_of (routine function.now) }
 {
@@ -238,7 +238,7 @@ fn parameters(function: &Function) -> &[Local]
     &locals[..count]
 }
 
-// The path of a parameter.
+// Returns the path of a parameter.
 fn parameter_at(alloc: Global, name: &Name) -> Result<Path, AllocError>
     ensures { IfOk result (λ path. path ≡ path_of name.now) }
 {
@@ -248,7 +248,7 @@ fn parameter_at(alloc: Global, name: &Name) -> Result<Path, AllocError>
     })
 }
 
-// The numbers of a range that has 0.
+// Returns the numbers of a range that contains 0.
 fn numbers_in(alloc: Global, range: &(i128, i128)) -> Result<RangeSet, AllocError>
     requires low { IsInside range.now.0 }
     requires high { IsInside range.now.1 }
@@ -260,7 +260,7 @@ fn numbers_in(alloc: Global, range: &(i128, i128)) -> Result<RangeSet, AllocErro
     RangeSet::of(alloc, range.0, range.1)
 }
 
-// The number of a symbol.
+// Returns a symbol as a term.
 fn own(sym: Sym) -> Lin
     ensures { result ≡ starting.own sym }
 {
@@ -272,7 +272,7 @@ fn own(sym: Sym) -> Lin
     }
 }
 
-// A start block of so many bytes.
+// Returns a start block of a size.
 fn start_block_of(bytes: u64, element: TypeNumber, sym: Sym) -> Block
     ensures { result ≡ starting.start_block_of bytes element sym }
 {
@@ -290,7 +290,7 @@ fn start_block_of(bytes: u64, element: TypeNumber, sym: Sym) -> Block
     }
 }
 
-// The first frame of an entry.
+// Returns the first frame of an entry.
 fn first_frame(alloc: Global, code: &Code, entry: u32) -> Result<Frame, AllocError>
     ensures { IfOk result (λ frame. frame
         ≡ frame_in entry (unwrap_or (graphs.flow_of (graph.code code.now) entry) no_flow)) }
@@ -301,7 +301,7 @@ fn first_frame(alloc: Global, code: &Code, entry: u32) -> Result<Frame, AllocErr
     }
 }
 
-// The flow graph of a function.
+// Returns the flow graph of a function.
 fn flow_of(code: &Code, function: u32) -> Option<&Flow>
     ensures { option_map (λ flow. graph.flow flow.now) result
         ≡ graphs.flow_of (graph.code code.now) function }
@@ -313,7 +313,7 @@ fn flow_of(code: &Code, function: u32) -> Option<&Flow>
     }
 }
 
-// A frame that begins at a block.
+// Returns a frame that begins at a basic block.
 fn frame_at(
     alloc: Global,
     function: u32,

@@ -1,4 +1,4 @@
-//! The blocks after unknown pointers.
+//! The blocks that unknown pointers point to.
 ghost use Rattle.std.specs.Prelude.{◌≡◌, IfOk};
 ghost use Rattle.cs_types.specs.Layout.{HasSmallSizes};
 ghost use Rattle.cs_types.specs.Shape.{shape_of};
@@ -10,7 +10,7 @@ use cs_ast::typed::program::Program;
 use cs_types::{CType, IntType, bytes, size, start_extent};
 use std::alloc::AllocError;
 
-// The bytes of what a pointer to a type points to: after a `void *` these are single bytes (C11 6.3.2.3).
+// Returns the size in bytes of what a pointer to a type points to; a `void *` points to single bytes (C11 6.3.2.3).
 fn element_size(program: &Program, target: &CType) -> u64
     requires laid_out { HasLayouts program.now }
     requires small { HasSmallSizes program.now.model program.now.table.list (shape_of target.now) }
@@ -27,7 +27,7 @@ fn element_size(program: &Program, target: &CType) -> u64
     element.unwrap_or(0)
 }
 
-/// The bytes of the block after an unknown pointer: so many elements, or as many as such a block has.
+/// Returns the size in bytes of the block that an unknown pointer points to: `count` elements, or the default extent.
 pub fn start_bytes(program: &Program, target: &CType, count: Option<u64>) -> Result<u64, AllocError>
     requires laid_out { HasLayouts program.now }
     requires small { HasSmallSizes program.now.model program.now.table.list (shape_of target.now) }

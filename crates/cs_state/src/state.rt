@@ -1,4 +1,4 @@
-//! The state of an exploration at one position of its runs.
+//! Symbolic states.
 ghost use Rattle.std.specs.Prelude.{◌≡◌, ◌++◌, [], ◌∷◌, IfOk, OnOk, OnErr};
 
 use crate::asked::Asked;
@@ -14,7 +14,7 @@ use cs_types::DataModel;
 use std::alloc::{AllocError, Global};
 use std::marker::Model;
 
-/// The answers that the events of the operation in progress have had so far, in order. A contract sees a list of terms.
+/// The answers to the events of the operation in progress so far, in order. A contract sees a list of terms.
 #[derive(Drop)]
 pub struct Answers {
     list: Vec<Lin>,
@@ -30,7 +30,7 @@ impl Model for Answers {
 }
 
 impl Answers {
-    /// None.
+    /// Returns an empty list.
     pub fn new(alloc: Global) -> Answers
         ensures { result ≡ [] }
     {
@@ -39,14 +39,14 @@ impl Answers {
         }
     }
 
-    /// The answers in order.
+    /// Returns the answers in order.
     pub fn as_slice(&self) -> &[Lin]
         ensures { result.now ≡ self.now }
     {
         self.list.as_slice()
     }
 
-    /// One more answer.
+    /// Appends an answer.
     pub fn push(&mut self, answer: Lin) -> Result<(), AllocError>
         ensures ok { OnOk result (self.new ≡ self.old ++ answer ∷ []) }
         ensures err { OnErr result (self.new ≡ self.old) }
@@ -55,7 +55,7 @@ impl Answers {
         Ok(())
     }
 
-    /// The operation is done.
+    /// Removes all answers.
     pub fn clear(&mut self)
         ensures { self.new ≡ [] }
     {
@@ -75,7 +75,7 @@ impl Clone for Answers {
     }
 }
 
-/// How many of each a run has had: frames, allocations, calls of functions without a body, and events.
+/// How many frames, allocations, calls of functions without a body, and events a run has had.
 #[derive(Clone, Copy)]
 pub struct Counters {
     pub frames: u64,
@@ -84,19 +84,19 @@ pub struct Counters {
     pub events: u64,
 }
 
-/// What is known of the runs that have come to one position: the state of the run of the code before the operation in progress, in terms
-/// over symbols, and the answers that this operation's events have had so far.
+/// What is known about the runs that reach one position: the state of the run of the code before the
+/// operation in progress, in terms over symbols, and the answers to this operation's events so far.
 ///
-/// The fields are there to be read. Each write is a method.
+/// The fields are public to be read. Each write is a method.
 #[derive(Drop)]
 pub struct State {
     pub model: DataModel,
-    /// The frame that runs.
+    /// The running frame.
     pub frame: Frame,
     pub callers: Callers,
     /// What was written to objects.
     pub store: Store,
-    /// The start blocks and heap blocks, by the numbers of their base regions beside a zero.
+    /// The start blocks and heap blocks, keyed by `(base region, 0)`.
     pub blocks: PMap<Block>,
     /// The cells that were read from inputs and not written since.
     pub read: ReadCells,
@@ -104,15 +104,15 @@ pub struct State {
     pub constraints: Constraints,
     pub answers: Answers,
     pub counters: Counters,
-    /// The guesses, by their events beside a zero.
+    /// The guesses, keyed by `(event, 0)`.
     pub asked: PMap<Asked>,
-    /// Where a watched protocol stands.
+    /// The phase of a watched protocol.
     pub phase: u32,
-    /// What the entry has returned, none for nothing.
+    /// The value that the entry has returned, if there is one.
     pub result: Option<Value>,
 }
 
-// The parts of a state that say where a run stands.
+// The parts of a state that describe the position of a run.
 #[derive(Drop)]
 struct Position {
     frame: Frame,
@@ -120,7 +120,7 @@ struct Position {
     answers: Answers,
 }
 
-// The parts of a state that say what memory holds.
+// The parts of a state that describe memory.
 #[derive(Drop)]
 struct Held {
     store: Store,
@@ -129,7 +129,7 @@ struct Held {
 }
 
 impl State {
-    /// The same state.
+    /// Returns a copy.
     pub fn copy(&self) -> Result<State, AllocError>
         ensures { IfOk result (λ copy. copy ≡ self.now) }
     {

@@ -1,4 +1,5 @@
-//! The tables that an exploration's states share: they only grow, and a number stands for the same thing in each state.
+//! The tables that the states of an exploration share: they only grow, and a number names the same thing in
+//! each state.
 ghost use Rattle.std.specs.Prelude.{◌≡◌, [], Some, map, slice_get, IfOk, OnErr, MatchOption};
 ghost use Rattle.std.specs.List.{Contains};
 ghost use Rattle.std.specs.Option.{option_map};
@@ -16,7 +17,7 @@ use cs_types::{CType, IntType};
 use std::alloc::{AllocError, Global};
 use std::marker::Model;
 
-/// Types in the order in which they were first seen, each once. A type's number is its place.
+/// Types in the order in which they were first seen, each once. A type's number is its index.
 #[derive(Drop)]
 pub struct TypeTable {
     alloc: Global,
@@ -36,7 +37,7 @@ impl Model for TypeTable {
 }
 
 impl TypeTable {
-    /// No type was seen.
+    /// Returns an empty table.
     pub fn new(alloc: Global) -> TypeTable
         ensures { result ≡ [] }
     {
@@ -46,7 +47,7 @@ impl TypeTable {
         }
     }
 
-    /// The number of a type: the one that it has, or the next one.
+    /// Returns the number of a type: the one that it has, or the next one.
     pub fn number_of(&mut self, ty: &CType) -> Result<TypeNumber, AllocError>
         ensures number { IfOk result (λ number.
             slice_get self.new number.0 ≡ Some (shape_of ty.now)) }
@@ -63,7 +64,7 @@ impl TypeTable {
         Ok(TypeNumber(place as u64))
     }
 
-    /// The type with a number.
+    /// Returns the type with a number.
     pub fn ty(&self, number: TypeNumber) -> Option<&CType>
         ensures { option_map (λ ty. shape_of ty.now) result ≡ slice_get self.now number.0 }
     {
@@ -71,7 +72,7 @@ impl TypeTable {
     }
 }
 
-// The first place of a type.
+// Returns the first index of a type in a list, if it is there.
 fn place_of(types: &[CType], ty: &CType) -> Option<usize>
     ensures { MatchOption result (¬ Contains (map shape_of types.now) (shape_of ty.now))
         (λ place. slice_get (map shape_of types.now) place ≡ Some (shape_of ty.now)) }
@@ -93,7 +94,7 @@ pub struct Tables {
 }
 
 impl Tables {
-    /// Nothing has a number.
+    /// Returns empty tables.
     pub fn new(alloc: Global) -> Tables
         ensures syms { keys result.syms.names ≡ [] }
         ensures bases { keys result.bases.names ≡ [] }
@@ -106,7 +107,7 @@ impl Tables {
         }
     }
 
-    /// The symbol with a name.
+    /// Returns the symbol with a name, a new one if there is none.
     pub fn sym(&mut self, name: SymName) -> Result<Sym, AllocError>
         ensures named { IfOk result (λ sym.
             slice_get (naming self.new).syms sym.0 ≡ Some name) }
@@ -116,7 +117,7 @@ impl Tables {
         self.syms.number_of(name)
     }
 
-    /// The number of a base region.
+    /// Returns the number of a base region, a new one if it has none.
     pub fn base(&mut self, base: Base) -> Result<u64, AllocError>
         ensures named { IfOk result (λ number.
             slice_get (naming self.new).bases number ≡ Some base) }
@@ -126,7 +127,7 @@ impl Tables {
         self.bases.number_of(base)
     }
 
-    /// The number of what a pointer to a type points to: after a `void *` these are bytes.
+    /// Returns the number of the type that a pointer points to; a `void *` points to bytes.
     pub fn element(&mut self, target: &CType) -> Result<TypeNumber, AllocError>
         ensures named { IfOk result (λ number.
             slice_get (naming self.new).types number.0

@@ -1,4 +1,4 @@
-//! Temporaries: what evaluated expressions leave in a frame until they are used.
+//! Temporaries: the results of evaluated expressions, which a frame keeps until they are used.
 ghost use Rattle.std.specs.Prelude.{◌≡◌, ◌++◌, [], ◌∷◌, ℕ, List, take, None, Some, IfOk, OnOk, OnErr, MatchOption};
 ghost use Rattle.std.specs.Option.{option_to_list};
 
@@ -24,7 +24,7 @@ impl Model for Scalars {
 }
 
 impl Scalars {
-    /// Of these values.
+    /// Makes a struct of these values.
     pub fn of(values: Vec<Value>) -> Result<Scalars, AllocError>
         ensures { IfOk result (λ scalars. scalars ≡ values.items) }
     {
@@ -33,7 +33,7 @@ impl Scalars {
         })
     }
 
-    /// The values in order.
+    /// Returns the values in order.
     pub fn as_slice(&self) -> &[Value]
         ensures { result.now ≡ self.now }
     {
@@ -51,14 +51,14 @@ impl Clone for Scalars {
     }
 }
 
-/// What an evaluated expression leaves.
+/// The result of an evaluated expression.
 #[derive(Drop)]
 pub enum Temporary {
     /// A scalar.
     Scalar(Value),
     /// The scalars of a struct.
     Whole(Scalars),
-    /// Nothing, as a call of a void function.
+    /// Nothing, as for a call of a void function.
     Nothing,
 }
 
@@ -74,7 +74,7 @@ impl Clone for Temporary {
     }
 }
 
-/// The temporaries of a frame, by their numbers: the newest is the last. A contract sees a list.
+/// The temporaries of a frame, in order of number: the newest is the last. A contract sees a list.
 #[derive(Drop)]
 pub struct Temporaries {
     list: Vec<Temporary>,
@@ -90,7 +90,7 @@ impl Model for Temporaries {
 }
 
 impl Temporaries {
-    /// No temporary is in use.
+    /// Returns an empty list.
     pub fn new(alloc: Global) -> Temporaries
         ensures { result ≡ [] }
     {
@@ -99,14 +99,14 @@ impl Temporaries {
         }
     }
 
-    /// The temporaries in order of number.
+    /// Returns the temporaries in order of number.
     pub fn as_slice(&self) -> &[Temporary]
         ensures { result.now ≡ self.now }
     {
         self.list.as_slice()
     }
 
-    /// Adds one, which takes the next number.
+    /// Appends a temporary, which gets the next number.
     pub fn push(&mut self, temporary: Temporary) -> Result<(), AllocError>
         ensures ok { OnOk result (self.new ≡ self.old ++ temporary ∷ []) }
         ensures err { OnErr result (self.new ≡ self.old) }
@@ -115,7 +115,7 @@ impl Temporaries {
         Ok(())
     }
 
-    /// Takes the newest one out, where there is one.
+    /// Removes and returns the newest temporary, if there is one.
     pub fn pop(&mut self) -> Option<Temporary>
         ensures taken { self.old ≡ self.new ++ option_to_list result }
         ensures none { result ≡ None → self.old ≡ [] }
@@ -123,7 +123,7 @@ impl Temporaries {
         self.list.pop()
     }
 
-    /// Drops those with this number or a greater one.
+    /// Drops the temporaries with this number or a greater one.
     pub fn cut(&mut self, number: usize)
         ensures { self.new ≡ take number self.old }
     {

@@ -1,12 +1,12 @@
-//! How often each loop head and label of a frame was reached.
+//! How often a frame has reached each loop head and label.
 ghost use Rattle.std.specs.Prelude.{◌≡◌, ◌+◌, ℕ, List, Some, slice_get, slice_set, replicate, IfOk};
 
 use std::alloc::{AllocError, Global};
 use std::marker::Model;
 use std::rc::RcSlice;
 
-/// A count for each counted point of a function, by the point's number. Copies share the counts until one is raised, and a contract sees
-/// a list.
+/// The number of visits of each counted point of a function, by the point's number. Copies share the counts
+/// until one is changed. A contract sees a list.
 #[derive(Drop)]
 pub struct Visits {
     counts: RcSlice<u32>,
@@ -22,7 +22,7 @@ impl Model for Visits {
 }
 
 impl Visits {
-    /// None of so many counted points was reached.
+    /// Returns counts of 0 for a number of counted points.
     pub fn none(alloc: Global, counted_points: usize) -> Result<Visits, AllocError>
         ensures { IfOk result (λ visits. visits ≡ replicate counted_points 0) }
     {
@@ -31,14 +31,14 @@ impl Visits {
         })
     }
 
-    /// The counts in order.
+    /// Returns the counts in order.
     pub fn as_slice(&self) -> &[u32]
         ensures { result.now ≡ self.now }
     {
         self.counts.as_slice()
     }
 
-    /// These counts with another one at a counted point.
+    /// Returns these counts with another one at a counted point.
     pub fn with(
         &self,
         alloc: Global,

@@ -1,4 +1,4 @@
-//! Writes to a state. Where a call fails for want of memory, the state is as it was.
+//! Writes to a state. If a call runs out of memory, the state doesn't change.
 ghost use Rattle.std.specs.Prelude.{◌≡◌, ◌≢◌, ◌⊎◌, ◌++◌, [], ◌∷◌, ℕ, List, take, slice_set, None, Some, if◌then◌else◌, IfOk, OnOk, OnErr, MatchOption};
 ghost use Rattle.std.specs.Option.{option_or, option_to_list};
 ghost use Rattle.std.specs.List.{Contains};
@@ -31,14 +31,14 @@ use cs_terms::{Lin, Sym};
 use std::alloc::{AllocError, Global};
 
 impl State {
-    /// Lists the bindings of large regions for keys. The state is the same.
+    /// Lists the bindings of large regions for keys. The state doesn't change.
     pub fn list_regions(&mut self) -> Result<(), AllocError>
         ensures { self.new ≡ self.old }
     {
         self.store.list_large()
     }
 
-    /// One more temporary, which takes the next number.
+    /// Pushes a temporary, which gets the next number.
     pub fn push(&mut self, temporary: Temporary) -> Result<(), AllocError>
         ensures ok { OnOk result
             (self.new ≡ with_temporaries (self.old.frame.temporaries ++ temporary ∷ [])
@@ -50,7 +50,7 @@ impl State {
         Ok(())
     }
 
-    /// Takes the newest temporary out, where there is one.
+    /// Removes and returns the newest temporary, if there is one.
     pub fn pop(&mut self) -> Option<Temporary>
         ensures taken { self.old
             ≡ with_temporaries (self.new.frame.temporaries ++ option_to_list result) self.new }
@@ -66,14 +66,14 @@ impl State {
         self.frame.temporaries.cut(number);
     }
 
-    /// The frame that runs goes on at a spot.
+    /// Makes the running frame continue at a spot.
     pub fn go_to(&mut self, spot: Spot)
         ensures { self.new ≡ at_spot spot self.old }
     {
         self.frame.spot = spot;
     }
 
-    /// A counted point of the function that runs was reached so often.
+    /// Sets the number of visits of a counted point of the running function.
     pub fn count_visit(
         &mut self,
         alloc: Global,
@@ -91,7 +91,7 @@ impl State {
         Ok(())
     }
 
-    /// One more event of the operation in progress has been answered.
+    /// Adds the answer to one more event of the operation in progress.
     pub fn answer(&mut self, answer: Lin) -> Result<(), AllocError>
         ensures ok { OnOk result
             (self.new ≡ with_answers (self.old.answers ++ answer ∷ []) self.old) }
@@ -101,14 +101,14 @@ impl State {
         Ok(())
     }
 
-    /// The operation is done, and has left no answers.
+    /// Removes the answers of the operation in progress, which is done.
     pub fn finish_operation(&mut self)
         ensures { self.new ≡ with_answers [] self.old }
     {
         self.answers.clear();
     }
 
-    /// A symbol may have the numbers of a set.
+    /// Lets a symbol have the numbers of a set.
     pub fn declare(&mut self, sym: Sym, set: RangeSet) -> Result<(), AllocError>
         requires { IsInhabited set }
         ensures here { OnOk result (set_of self.new.constraints sym.0 ≡ Some set) }
@@ -121,7 +121,7 @@ impl State {
         Ok(())
     }
 
-    /// Each of the symbols may have the numbers of a set.
+    /// Lets each of the symbols have the numbers of a set.
     pub fn declare_all(&mut self, syms: &[Sym], set: &RangeSet) -> Result<(), AllocError>
         requires { IsInhabited set.now }
         ensures sets { OnOk result ((sym : ℕ) → set_of self.new.constraints sym
@@ -133,7 +133,7 @@ impl State {
         Ok(())
     }
 
-    /// The same state of the runs alone in which a term is in a set; none where there are no such runs.
+    /// Returns the same state for only the runs in which a term is in a set; none if there are no such runs.
     pub fn narrowed(&self, term: Lin, set: &RangeSet) -> Result<Option<State>, AllocError>
         requires term { IsTerm term }
         requires declared { IsDeclared self.now.constraints term.sym }
@@ -192,7 +192,7 @@ impl State {
         Ok(())
     }
 
-    /// Fills a base region.
+    /// Fills a base region, which drops all its bindings.
     pub fn fill(&mut self, base: u64, fill: Fill) -> Result<(), AllocError>
         ensures here { OnOk result ((o : ℕ) → held self.new.store base o ≡ found.Fill fill) }
         ensures elsewhere { OnOk result ((b o : ℕ) → b ≢ base
@@ -211,7 +211,8 @@ impl State {
         Ok(())
     }
 
-    /// Nothing is bound in base regions from now on, as in the locals of a frame that has ended, or in one that is declared anew.
+    /// Drops all bindings of base regions, as of the locals of a frame that has ended, or of a local that is
+    /// declared again.
     pub fn unbind(&mut self, bases: &[u64]) -> Result<(), AllocError>
         ensures dropped { OnOk result ((b o : ℕ) → Contains bases.now b
             → held self.new.store b o ≡ found.Fill fill.Unset) }
@@ -232,7 +233,7 @@ impl State {
         Ok(())
     }
 
-    /// A cell was read from its input, which has this symbol.
+    /// Records that a cell was read from its input, which has this symbol.
     pub fn read_cell(&mut self, base: u64, offset: u64, sym: Sym) -> Result<(), AllocError>
         ensures here { OnOk result (read_at self.new.read base offset ≡ Some sym) }
         ensures elsewhere { OnOk result ((b o : ℕ) → (b ≢ base) ⊎ (o ≢ offset)
@@ -244,7 +245,7 @@ impl State {
         Ok(())
     }
 
-    /// Cells of a base region were read from their inputs, which have these symbols.
+    /// Records that cells of a base region were read from their inputs, which have these symbols.
     pub fn read_cells(&mut self, base: u64, cells: &[(u64, Sym)]) -> Result<(), AllocError>
         ensures here { OnOk result ((o : ℕ) → read_at self.new.read base o
             ≡ option_or (last_read cells.now o) (read_at self.old.read base o)) }
@@ -257,7 +258,7 @@ impl State {
         Ok(())
     }
 
-    /// A base region is this block: a new one, or one that has another standing now.
+    /// Sets the block of a base region: a new one, or one with another standing.
     pub fn set_block(&mut self, base: u64, block: Block) -> Result<(), AllocError>
         ensures ok { OnOk result
             (self.new ≡ with_blocks (insert self.old.blocks (base, 0) block) self.old) }
@@ -267,7 +268,7 @@ impl State {
         Ok(())
     }
 
-    /// An event was guessed.
+    /// Adds a guess.
     pub fn guess(&mut self, asked: Asked) -> Result<(), AllocError>
         ensures ok { OnOk result
             (self.new ≡ with_guesses (insert self.old.asked (asked.event, 0) asked) self.old) }
@@ -277,7 +278,7 @@ impl State {
         Ok(())
     }
 
-    /// A frame runs from now on, and the one that ran waits for it.
+    /// Makes a frame the running one, and the one that ran its caller.
     pub fn enter(&mut self, alloc: Global, frame: Frame) -> Result<(), AllocError>
         ensures ok { OnOk result
             (self.new ≡ in_frame frame (self.old.frame ∷ self.old.callers) self.old) }
@@ -289,7 +290,7 @@ impl State {
         Ok(())
     }
 
-    /// The frame that runs has ended, and its caller goes on; false where the entry's frame runs.
+    /// Ends the running frame, and continues its caller; returns false if the entry's frame is running.
     pub fn leave(&mut self) -> Result<bool, AllocError>
         ensures ok { IfOk result (λ left. IsLeft left self.old self.new) }
         ensures err { OnErr result (self.new ≡ self.old) }
@@ -306,7 +307,7 @@ impl State {
         Ok(true)
     }
 
-    /// A block was freed, where the state has it.
+    /// Marks a block as freed, if the state has it.
     pub fn release(&mut self, base: u64) -> Result<(), AllocError>
         ensures ok { OnOk result
             (self.new ≡ with_blocks (released self.old.blocks base) self.old) }
@@ -322,21 +323,21 @@ impl State {
         self.set_block(base, freed)
     }
 
-    /// The run has had so many of each.
+    /// Sets the counters of the run.
     pub fn set_counters(&mut self, counters: Counters)
         ensures { self.new ≡ with_counters counters self.old }
     {
         self.counters = counters;
     }
 
-    /// A watched protocol stands there.
+    /// Sets the phase of a watched protocol.
     pub fn set_phase(&mut self, phase: u32)
         ensures { self.new ≡ with_phase phase self.old }
     {
         self.phase = phase;
     }
 
-    /// The entry has returned this.
+    /// Sets the value that the entry has returned.
     pub fn set_result(&mut self, returned: Option<Value>)
         ensures { self.new ≡ with_result returned self.old }
     {

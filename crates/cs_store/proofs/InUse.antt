@@ -1,4 +1,4 @@
--- Which regions a store keeps: those that hold something. For the invariant of `Store`.
+-- A store keeps only the regions that hold something: for the invariant of `Store`.
 use Rattle.std.proofs.Common.{◌≡◌, ◌==◌, ℕ, Bool, true, false, cond, nat_eq, List, [], ◌∷◌, length, refl, sym, ap, ◌∙◌, subst}
 use Rattle.std.specs.Prelude.{◌≢◌, Option, None, Some}
 use Rattle.std.specs.FinMap as finite

@@ -1,4 +1,4 @@
--- Keys that are a number beside a zero: for the contracts of `Region` and of `Store`.
+-- Keys whose second number is 0: for the contracts of `Region` and of `Store`.
 use Rattle.std.proofs.Common.{◌≡◌, ℕ, Bool, true, false, cond, refl, sym, ap, ◌∙◌, true≢false}
 use Rattle.std.specs.Prelude.{Some, is_some, IsTrue, ◌≢◌}
 use Rattle.std.specs.Ordering.{eq_by_cmp, is_eq}

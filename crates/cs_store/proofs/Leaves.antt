@@ -1,4 +1,4 @@
--- Leaves that are bound at once, base regions that are taken out one by one, writes that are done one by one: for the contracts of
+-- Leaves that are bound at once, base regions that are removed one by one, writes that are done one by one: for the contracts of
 -- `with_leaves`, `without` and `replayed`.
 use Rattle.std.proofs.Common.{◌≡◌, ℕ, Bool, true, false, cond, nat_eq, ◌||◌, ◌+◌, ◌<◌, List, [], drop, get_or, length, ◌∷◌, refl, sym, ap}
 use Rattle.std.proofs.Common.{◌∙◌}

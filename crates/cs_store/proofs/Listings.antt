@@ -1,4 +1,4 @@
--- Bindings are listed one after the other: for the loop of `list`. A term is listed by its value at 0 where there is one: for `put_term`.
+-- Bindings are listed one after the other: for the loop of `list`. A term is listed with its value at 0 if this can be computed: for `put_term`.
 use Rattle.std.proofs.Common.{◌≡◌, ℕ, ℤ, suc, ◌+◌, Bool, true, false, List, [], ◌∷◌, ◌++◌, length, sym, ap, ◌∙◌, subst, arith, add-zero}
 use Rattle.std.proofs.Common.{append_assoc, refl}
 use Rattle.std.specs.Bool.{then_some}

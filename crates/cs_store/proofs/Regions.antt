@@ -1,4 +1,4 @@
--- What is held after one region, or one binding, was put in place: for the contracts of `Store`.
+-- What is held after one region or one binding is replaced: for the contracts of `Store`.
 use Rattle.std.proofs.Common.{◌≡◌, ◌⊎◌, ℕ, Bool, true, false, cond, refl, sym, ap, ◌∙◌, subst, inl, inr, nat_eq, List, true≢false}
 use Rattle.std.specs.Prelude.{None, Some, ◌≢◌}
 use Rattle.std.specs.Option.{unwrap_or, option_map_or}

@@ -1,4 +1,4 @@
--- Listing the bindings of regions leaves a store what it is: for the contract of `listed`.
+-- Listing the bindings of regions doesn't change a store: for the contract of `listed`.
 use Rattle.std.proofs.Common.{◌≡◌, ℕ, Bool, true, false, cond, [], ◌∷◌, ◌++◌, refl, sym, ap, ◌∙◌, subst, append_assoc}
 use Rattle.std.specs.Prelude.{Some}
 use Rattle.std.specs.Ordering.{eq_by_cmp}

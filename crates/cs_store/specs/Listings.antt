@@ -1,5 +1,5 @@
--- Listings: the words of the values that are bound in a region, and the symbols that they mention. A term is listed by its slope, its value
--- where its symbol is 0, and the number of its symbol; what numbers the symbol may have isn't listed. A term whose value at 0 can't be
+-- Listings: the words of the values that are bound in a region, and the symbols that they mention. A term is listed as its slope, its value
+-- where its symbol is 0, and the number of its symbol; the numbers that the symbol may have aren't listed. A term whose value at 0 can't be
 -- computed in 128 bits is listed as it is.
 use Rattle.std.specs.Prelude.{◌≡◌, ◌^◌, ℕ, ℤ, pos, neg_ℤ, int_le, int_lt, ◌-ℤ◌, ◌*ℤ◌, Bool, ◌&&◌, if◌then◌else◌, List, [], Option, None, Some}
 use Rattle.std.specs.FinMap as finite
@@ -25,7 +25,7 @@ origin_of term = term.value -ℤ (term.slope *ℤ term.at)
 abbrev pub has_origin : Lin → Bool
 has_origin term = fits_128 (term.slope *ℤ term.at) && fits_128 (origin_of term)
 
--- a term over a symbol, by its value at 0
+-- a term over a symbol, with its value at 0
 abbrev pub list_near : Sym → List ℕ → Lin → List ℕ
 list_near sym words term = with_word (with_integer (with_integer words term.slope) (origin_of term)) sym.0
 
@@ -33,7 +33,7 @@ list_near sym words term = with_word (with_integer (with_integer words term.slop
 abbrev pub list_far : Sym → List ℕ → Lin → List ℕ
 list_far sym words term = with_word (with_integer (with_integer (with_integer words term.slope) term.at) term.value) sym.0
 
--- a term ends with 0 where it is a constant, with 1 where it is listed by its value at 0, and with 2 where it is listed as it is
+-- the last word of a term is 0 for a constant, 1 for a term listed with its value at 0, and 2 for a term listed as it is
 abbrev pub list_term_over : Option Sym → List ℕ → Lin → List ℕ
 list_term_over None words term = with_word (with_integer words term.value) 0
 list_term_over (Some sym) words term =
@@ -42,7 +42,7 @@ list_term_over (Some sym) words term =
 abbrev pub list_term : List ℕ → Lin → List ℕ
 list_term words term = list_term_over term.sym words term
 
--- a value ends with the number of its form
+-- the last word of a value is the number of its form
 abbrev pub list_value : List ℕ → Value → List ℕ
 list_value words (Number term) = with_word (list_term words term) 0
 list_value words Null = with_word words 1
@@ -50,7 +50,7 @@ list_value words (At base offset) = with_word (with_word (list_term words offset
 list_value words (Start base offset) = with_word (with_word (with_word words offset) base) 3
 list_value words Unset = with_word words 4
 
--- a value after which its offset comes
+-- a value, followed by its offset
 abbrev pub list_binding : List ℕ → ℕ × Value → List ℕ
 list_binding words binding = with_word (list_value words binding.1) binding.0
 
@@ -74,7 +74,7 @@ pub record Listed : Type 0 where
 abbrev pub listing_of : List (ℕ × Value) → Listed
 listing_of bindings = record { words = with_list list_binding [] bindings; symbols = symbols_in bindings }
 
--- what is kept beside the bindings of a region is their listing
+-- what is kept with the bindings of a region is their listing
 abbrev pub IsListed : finite.FinMap key_cmp Value → Option Listed → Type 0
 IsListed direct None = Unit {0}
 IsListed direct (Some listing) = listing ≡ listing_of (by_number (finite.entries direct))

@@ -1,4 +1,4 @@
-//! The store of a state: what the cells of base regions hold, shared between the states that hold the same.
+//! The store of a state: the bindings of base regions. Copies share their common parts.
 #![tactic(auto)]
 
 mod listing;

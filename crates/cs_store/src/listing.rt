@@ -13,7 +13,7 @@ use std::alloc::{AllocError, Global};
 use std::marker::Model;
 use std::rc::RcSlice;
 
-// Memory for the bytes of most listings.
+// Enough bytes for the words of most listings.
 const BYTES: usize = 32;
 
 /// The words of the values that are bound in a region, and the symbols that they mention. Copies share both.
@@ -33,14 +33,14 @@ impl Model for Listing {
 }
 
 impl Listing {
-    /// The words of the values, each with its offset.
+    /// Returns the words of the values, each with its offset.
     pub fn words(&self) -> &SharedWords
         ensures { result.now ≡ self.now.words }
     {
         &self.words
     }
 
-    /// The symbols that the values mention, in order.
+    /// Returns the symbols that the values mention, in order.
     pub fn symbols(&self) -> &[Sym]
         ensures { result.now ≡ self.now.symbols }
     {
@@ -105,7 +105,7 @@ fn symbol_in(value: &Value) -> Option<Sym>
     }
 }
 
-/// The value of a term where its symbol is 0, if it can be computed in 128 bits.
+/// Returns the value of a term where its symbol is 0, if it can be computed in 128 bits.
 pub fn origin(term: &Lin) -> Option<i128>
     ensures { result ≡ then_some (has_origin term.now) (origin_of term.now) }
 {
@@ -130,7 +130,7 @@ fn put_term(words: &mut Words, term: &Lin) -> Result<(), AllocError>
     words.word(1)
 }
 
-// A term over a symbol as it is.
+// Appends a term over a symbol as it is.
 fn put_far(words: &mut Words, sym: Sym, term: &Lin) -> Result<(), AllocError>
     ensures { OnOk result (words.new ≡ list_far sym words.old term.now) }
 {

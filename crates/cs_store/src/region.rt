@@ -1,5 +1,5 @@
-//! What one base region holds: a default binding for all its cells, and direct bindings of single cells, in the sense of the stores
-//! of Clang's analyzer.
+//! The contents of one base region: a default binding for all its cells, and direct bindings of single cells,
+//! as in the stores of Clang's analyzer.
 ghost use Rattle.std.specs.Prelude.{◌≡◌, ℕ, IfOk, IfSome, OnOk, OnErr};
 ghost use Rattle.std.specs.Iterator.{YieldsFirstBy, item_count};
 ghost use Rattle.cs_store.specs.Contents.{filled, held_in, with_binding, keyed, after_leaves, bindings_of, HasOffsets, IsListing};
@@ -11,16 +11,16 @@ use cs_pmap::{Entries, PMap};
 use std::alloc::{AllocError, Global};
 use std::marker::Model;
 
-// Trees of 32 bindings or more have this height at least, and none of less than 20.
+// Trees of 32 bindings or more have at least this height; trees of less than 20 don't.
 const HIGH: u64 = 6;
 
 /// The default binding and the direct bindings of a base region.
 #[derive(Drop)]
 pub struct Region {
     fill: Fill,
-    // Keyed by the offset beside a zero.
+    // Keyed by `(offset, 0)`.
     direct: PMap<Value>,
-    // The listing of the direct bindings, where they were listed since the last write: copies share it.
+    // The listing of the direct bindings, if they were listed since the last write. Copies share it.
     listing: Option<Listing>,
 }
 
@@ -42,7 +42,7 @@ impl Model for Region {
 }
 
 impl Region {
-    /// A fill, and no direct binding.
+    /// Returns a region with a fill and no direct bindings.
     pub(crate) fn filled(alloc: Global, fill: Fill) -> Region
         ensures { result ≡ filled fill }
     {
@@ -53,21 +53,21 @@ impl Region {
         }
     }
 
-    /// Each direct binding is kept under its offset beside a zero.
+    /// The second number of the key of each direct binding is 0.
     pub(crate) fn has_offsets(&self)
         ensures { HasOffsets self.now.direct }
     {
         let _ = &self.direct;
     }
 
-    /// The default binding.
+    /// Returns the default binding.
     pub fn fill(&self) -> Fill
         ensures { result ≡ self.now.fill }
     {
         self.fill
     }
 
-    /// What the region holds at an offset.
+    /// Returns what the region holds at an offset.
     pub fn at(&self, offset: u64) -> Binding
         ensures { result ≡ held_in self.now offset }
     {
@@ -87,7 +87,7 @@ impl Region {
         Ok(())
     }
 
-    /// The region after one more binding for each leaf, in order.
+    /// Returns the region after the leaves are bound, in order.
     pub(crate) fn with_leaves(
         &self,
         alloc: Global,
@@ -107,7 +107,7 @@ impl Region {
         })
     }
 
-    /// The direct bindings in order of offset. The iterator takes its memory here and none later.
+    /// Returns the direct bindings in order of offset. The iterator allocates its memory here and none later.
     pub fn bindings(&self) -> Result<Bindings<'_>, AllocError>
         ensures listing { IfOk result (IsListing self.now) }
         ensures entries { IfOk result (λ bindings. bindings ≡ bindings_of self.now) }
@@ -122,14 +122,14 @@ impl Region {
         self.direct.height() >= HIGH
     }
 
-    /// The listing of the direct bindings, where it is kept.
+    /// Returns the listing of the direct bindings, if it is kept.
     pub fn listing(&self) -> Option<&Listing>
         ensures { IfSome result (λ listing. listing.now ≡ listing_of (bindings_of self.now)) }
     {
         self.listing.as_ref()
     }
 
-    /// Lists the direct bindings, unless they are many. The region holds what it held.
+    /// Lists the direct bindings, unless the region is large. What it holds doesn't change.
     pub(crate) fn list_if_small(&mut self, alloc: Global) -> Result<(), AllocError>
         ensures { self.new ≡ self.old }
     {
@@ -139,7 +139,7 @@ impl Region {
         Ok(())
     }
 
-    /// The same region with its bindings listed, where they are many and aren't listed yet.
+    /// Returns the same region with its bindings listed, if it is large and they aren't listed yet.
     pub(crate) fn listed(&self, alloc: Global) -> Result<Option<Region>, AllocError>
         ensures { IfOk result (λ listed. IfSome listed (λ region. region ≡ self.now)) }
     {
@@ -154,7 +154,7 @@ impl Region {
     }
 }
 
-// The leaves as entries of the map of direct bindings.
+// Returns the leaves as entries of the map of direct bindings.
 fn keyed(alloc: Global, leaves: &[(u64, Value)]) -> Result<Vec<((u64, u64), Value)>, AllocError>
     ensures { IfOk result (λ entries. entries.items ≡ keyed leaves.now) }
 {
@@ -177,7 +177,8 @@ impl Clone for Region {
     }
 }
 
-/// Direct bindings that are still to come, in order of offset. A contract sees them as a list of offsets with their values.
+/// An iterator over direct bindings, in order of offset. A contract sees the remaining ones as a list of
+/// offsets with their values.
 #[derive(Drop)]
 pub struct Bindings<'a> {
     entries: Entries<'a, Value>,

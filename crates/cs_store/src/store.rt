@@ -1,4 +1,4 @@
-//! The store: which base region holds what.
+//! The store: the bindings of all base regions.
 ghost use Rattle.std.specs.Prelude.{◌≡◌, ◌≢◌, ◌⊎◌, ℕ, nat_eq, Some, if◌then◌else◌, IfOk, OnOk, OnErr};
 ghost use Rattle.std.specs.FinMap.{get, insert};
 ghost use Rattle.std.specs.Iterator.{YieldsFirstBy, item_count};
@@ -12,17 +12,17 @@ use cs_pmap::{Entries, PMap};
 use std::alloc::{AllocError, Global};
 use std::marker::Model;
 
-/// What the cells of base regions hold: for each base region a fill, and the values that were bound at offsets since. A base region
-/// that was never written holds unset cells.
+/// What the cells of base regions hold: for each base region a fill, and the values that were bound at
+/// offsets since. The cells of a base region that was never written are unset.
 ///
-/// Copies share what they have in common, and a write to one is not seen through another.
+/// Copies share their common parts; a write to one doesn't change another.
 #[derive(Drop)]
 pub struct Store {
     alloc: Global,
-    // Keyed by the region's number beside a zero. Each region has a map of its own, so that a fill drops its direct bindings at once.
-    // A region that holds nothing isn't kept, so that a store's regions are those that were written and hold what was written.
+    // Keyed by `(base region, 0)`. Each region has its own map, so that a fill drops its direct bindings at
+    // once. A region that holds nothing isn't kept.
     regions: PMap<Region>,
-    // What stands for each region that is not among the keys.
+    // The contents of each region without a key.
     unwritten: Region,
     // Whether no large region was written since they were listed.
     listed: bool,
@@ -51,7 +51,7 @@ impl Model for Store {
 }
 
 impl Store {
-    /// Nothing is written.
+    /// Returns an empty store.
     pub fn new(alloc: Global) -> Store
         ensures { (base offset : ℕ) → held result base offset ≡ Binding.Fill Fill.Unset }
     {
@@ -63,14 +63,14 @@ impl Store {
         }
     }
 
-    /// The value that was last bound at the offset since the region's last fill or drop, or else its fill.
+    /// Returns the value that was last bound at the offset since the region's last fill or drop, or else its fill.
     pub fn load(&self, base: u64, offset: u64) -> Binding
         ensures { result ≡ held self.now base offset }
     {
         self.region(base).at(offset)
     }
 
-    /// The same store.
+    /// Returns a copy.
     pub fn copy(&self) -> Result<Store, AllocError>
         ensures { IfOk result (λ copy. copy ≡ self.now) }
     {
@@ -94,7 +94,7 @@ impl Store {
         self.put(base, region)
     }
 
-    /// Fills a base region, whose direct bindings are dropped.
+    /// Fills a base region, and drops its direct bindings.
     pub fn bind_default(&mut self, base: u64, fill: Fill) -> Result<(), AllocError>
         ensures here { OnOk result ((o : ℕ) → held self.new base o ≡ Binding.Fill fill) }
         ensures elsewhere { OnOk result ((b o : ℕ) → b ≢ base
@@ -110,7 +110,7 @@ impl Store {
         Ok(())
     }
 
-    /// Binds the leaves of a struct, in order. Where memory is refused, none is bound.
+    /// Binds the leaves of a struct, in order. If the call runs out of memory, none is bound.
     pub fn copy_leaves(&mut self, leaves: &[(u64, Value)], base: u64) -> Result<(), AllocError>
         ensures here { OnOk result ((o : ℕ)
             → held self.new base o ≡ after_leaves leaves.now o (held self.old base o)) }
@@ -125,7 +125,8 @@ impl Store {
         self.put(base, region)
     }
 
-    /// Drops what base regions hold, as those of a frame that ended. Where memory is refused, none is dropped.
+    /// Drops the contents of base regions, as of the locals of a frame that has ended. If the call runs out
+    /// of memory, none is dropped.
     pub fn drop_frame(&mut self, bases: &[u64]) -> Result<(), AllocError>
         ensures dropped { OnOk result ((b o : ℕ) → Contains bases.now b
             → held self.new b o ≡ Binding.Fill Fill.Unset) }
@@ -137,15 +138,16 @@ impl Store {
         Ok(())
     }
 
-    /// The values that were bound in a base region, in order of offset. The iterator takes its memory here and none later.
+    /// Returns the direct bindings of a base region, in order of offset. The iterator allocates its memory
+    /// here and none later.
     pub fn bindings(&self, base: u64) -> Result<Bindings<'_>, AllocError>
         ensures { IfOk result (IsListing (contents_of self.now base)) }
     {
         self.region(base).bindings()
     }
 
-    /// The base regions that hold something, each with all that it holds, in order of their numbers. The iterator takes its memory here
-    /// and none later.
+    /// Returns the base regions that hold something, with their contents, in order of number. The iterator
+    /// allocates its memory here and none later.
     pub fn regions(&self) -> Result<EachRegion<'_>, AllocError>
         ensures listing { IfOk result (IsRegionListing self.now) }
         ensures entries { IfOk result (λ regions. regions ≡ regions_of self.now) }
@@ -155,8 +157,8 @@ impl Store {
         })
     }
 
-    /// Lists the bindings of large regions, so that copies share their words; small ones are listed where they are written. The store
-    /// holds what it held.
+    /// Lists the bindings of large regions, so that copies share their words; small ones are listed when they
+    /// are written. What the store holds doesn't change.
     pub fn list_large(&mut self) -> Result<(), AllocError>
         ensures { self.new ≡ self.old }
     {
@@ -168,14 +170,14 @@ impl Store {
         Ok(())
     }
 
-    /// Each region and each value that is bound is kept under a number beside a zero.
+    /// The second number of each key is 0, for regions and for direct bindings.
     pub fn has_plain_keys(&self)
         ensures { HasPlainKeys self.now }
     {
         let _ = &self.regions;
     }
 
-    // A region that was written takes the place of what was held.
+    // Replaces the contents of a base region, after a write.
     fn put(&mut self, base: u64, region: Region) -> Result<(), AllocError>
         requires { ¬ HoldsNothing region }
         ensures ok { OnOk result (self.new ≡ insert self.old (base, 0) region) }
@@ -200,7 +202,8 @@ impl Store {
     }
 }
 
-/// Base regions that are still to come, in order of their numbers. A contract sees them as a list of numbers with contents.
+/// An iterator over base regions, in order of number. A contract sees the remaining ones as a list of numbers
+/// with contents.
 #[derive(Drop)]
 pub struct EachRegion<'a> {
     entries: Entries<'a, Region>,
@@ -233,7 +236,7 @@ impl<'a> Iterator for EachRegion<'a> {
     }
 }
 
-// The same regions, with the bindings of large ones listed.
+// Returns the same regions, with the bindings of large ones listed.
 fn listed(alloc: Global, regions: &PMap<Region>) -> Result<PMap<Region>, AllocError>
     ensures { IfOk result (λ listed. listed ≡ regions.now) }
 {
@@ -246,7 +249,7 @@ fn listed(alloc: Global, regions: &PMap<Region>) -> Result<PMap<Region>, AllocEr
     Ok(listed)
 }
 
-// The regions other than these.
+// Returns all other regions.
 fn without(regions: &PMap<Region>, bases: &[u64]) -> Result<PMap<Region>, AllocError>
     ensures others { IfOk result (λ others.
         (b : ℕ) → get others (b, 0)

@@ -1,8 +1,8 @@
-//! What cells hold.
+//! The values that cells hold.
 
 use cs_terms::Lin;
 
-/// What all cells of a base region hold to which nothing was bound since.
+/// The default binding of a base region: what all cells hold to which no value was bound since.
 #[derive(Clone, Copy, PartialEq, Eq, Debug)]
 pub enum Fill {
     /// They were never written.
@@ -11,12 +11,12 @@ pub enum Fill {
     Zero,
     /// They hold the inputs at the paths that begin with the base region's own.
     Input,
-    /// They hold what a call of a function without a body wrote: the call's number in the run, from 1, and the number of the argument
-    /// that it wrote through, from 0.
+    /// They hold what a call of a function without a body wrote: the call's number in the run, from 1, and
+    /// the number of the argument through which it wrote, from 0.
     Wrote(u64, u64),
 }
 
-/// What one cell holds, or an expression gives. Base regions are named by their numbers in the table of base regions.
+/// The value of a cell or an expression. Base regions are named by their numbers in the table of base regions.
 #[derive(Clone, Copy, PartialEq, Eq, Debug)]
 pub enum Value {
     /// An integer.
@@ -24,9 +24,9 @@ pub enum Value {
     Null,
     /// A pointer to the byte at this offset of a base region.
     At(u64, Lin),
-    /// Null, or a pointer to the byte at this offset of a start block: which of the two was not looked at yet.
+    /// Null, or a pointer to the byte at this offset of a start block: no test has decided yet which of the two.
     Start(u64, u64),
-    /// What was never written.
+    /// A value that was never written.
     Unset,
 }
 
@@ -35,6 +35,6 @@ pub enum Value {
 pub enum Binding {
     /// The value that was bound there.
     Direct(Value),
-    /// The fill of the base region, where no value was bound since.
+    /// The fill of the base region, if no value was bound since.
     Fill(Fill),
 }

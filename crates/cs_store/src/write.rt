@@ -1,4 +1,4 @@
-//! Writes as data, and the store that a list of them gives: for tests, and for the law that a store obeys over whole runs.
+//! Writes as data, and the store after a list of them: for tests, and for the law of a store over whole runs.
 ghost use Rattle.std.specs.Prelude.{◌≡◌, ℕ, IfOk, OnOk, OnErr};
 ghost use Rattle.std.specs.Option.{unwrap_or};
 ghost use Rattle.cs_store.specs.Held.{held};
@@ -27,13 +27,13 @@ pub enum Write {
         base: u64,
         leaves: Vec<(u64, Value)>,
     },
-    /// Nothing for these base regions from now on.
+    /// The contents of these base regions are dropped.
     Drop {
         bases: Vec<u64>,
     },
 }
 
-/// The store after writes, in order, to one in which nothing is written.
+/// Returns the store after writes, in order, to an empty one.
 pub fn replayed(alloc: Global, writes: &[Write]) -> Result<Store, AllocError>
     ensures { IfOk result (λ store.
         (base offset : ℕ) → held store base offset ≡ held_after writes.now base offset) }

@@ -1,4 +1,4 @@
--- From the cut of a range by intervals to its pieces by quotients: for the contracts of `wrap_pieces` and `product_pieces`.
+-- A range that is split by intervals is split by quotients: for the contracts of `wrap_pieces` and `product_pieces`.
 use Rattle.std.proofs.Common.{◌≡◌, ◌↔◌, Bool, true, false, ◌&&◌, not, ℤ, pos, negsuc, ◌*ℤ◌, List, Option, Some, None, refl, sym, ap}
 use Rattle.std.proofs.Common.{subst, ◌∙◌, arith}
 use Rattle.std.specs.Prelude.{IsTrue, IsNone}

@@ -1,4 +1,4 @@
--- Small terms can be added and scaled: for the contract of `Constraints::prepared`, and for those who call `add`, `diff`, `merged` and `scale`.
+-- Small terms can be added and scaled: for the contract of `Constraints::prepared`, and for callers of `add`, `diff`, `merged` and `scale`.
 use Rattle.std.proofs.Common.{◌≡◌, ◌≢◌, ◌≤◌, ◌^◌, ℤ, pos, ◌+ℤ◌, ◌-ℤ◌, ◌*ℤ◌, unsigned_abs, Option, Some, None, refl}
 use Rattle.std.proofs.Common.{sym, ap, subst, ◌∙◌, arith}
 use Rattle.std.proofs.lemmas.Int.{ints, unsigned_abs-mul}

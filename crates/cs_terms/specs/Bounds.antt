@@ -8,10 +8,10 @@ use Rattle.cs_types.specs.IntType.{InRange}
 use Rattle.cs_terms.specs.declared.term.Lin.{Lin}
 use Rattle.cs_terms.specs.Term.{value_at}
 
--- at each number of the range the term's value is from the one bound to the other
+-- at each number of the range, the term's value is within the bounds
 abbrev pub StaysBetween : Lin → List Interval → ℤ → ℤ → Type 0
 StaysBetween term range low high = (x : ℤ) → IsTrue (contains range x) → (low ≤ℤ value_at term x) × (value_at term x ≤ℤ high)
 
--- at each number of the range the type has the term's value
+-- at each number of the range, the type can represent the term's value
 abbrev pub StaysWithin : DataModel → IntType → Lin → List Interval → Type 0
 StaysWithin model ty term range = (x : ℤ) → IsTrue (contains range x) → InRange model ty (value_at term x)

@@ -8,11 +8,11 @@ use Rattle.cs_terms.specs.declared.near.Near.{Near}
 use Rattle.cs_terms.specs.declared.pieces.Pieces.{Pieces}
 use Rattle.cs_terms.specs.Term.{value_at}
 
--- both ends lie from -2^65 to 2^65
+-- both ends are from -2^65 to 2^65
 abbrev pub IsNarrow : Interval → Type 0
 IsNarrow i = (unsigned_abs i.low ≤ 2 ^ 65) × (unsigned_abs i.high ≤ 2 ^ 65)
 
--- both ends lie from -2^126 to 2^126
+-- both ends are from -2^126 to 2^126
 abbrev pub HasEndsInside : Interval → Type 0
 HasEndsInside i = IsInside i.low × IsInside i.high
 
@@ -26,7 +26,7 @@ pub record HaveQuotients (quotient : ℤ → ℤ) (near : Near) : Type 0 where
   pub same : HasQuotient quotient (pos 0) near.same
   pub past : HasQuotient quotient (pos 1) near.past
 
--- the numbers inside -2^126..2^126 whose product with the factor lies in the interval
+-- the numbers from -2^126 to 2^126 whose product with the factor is in the interval
 abbrev pub HasCofactors : Interval → ℤ → Interval → Type 0
 HasCofactors products factor i = (x : ℤ) → IsInside x → in_interval i x ≡ in_interval products (x *ℤ factor)
 
@@ -34,7 +34,7 @@ HasCofactors products factor i = (x : ℤ) → IsInside x → in_interval i x �
 abbrev pub IsAtValues : Lin → List Interval → Interval → List Interval → Type 0
 IsAtValues term range values piece = (x : ℤ) → contains piece x ≡ (contains range x && in_interval values (value_at term x))
 
--- the range cut by which of the intervals has the term's value
+-- the range, split by which of the intervals contains the term's value
 pub record IsCut (near : Near) (term : Lin) (range : List Interval) (pieces : Pieces) : Type 0 where
   pub under : IsAtValues term range near.under pieces.under
   pub same : IsAtValues term range near.same pieces.same

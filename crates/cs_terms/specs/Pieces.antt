@@ -1,4 +1,4 @@
--- A range cut by the wrap quotient of what a term gives there.
+-- A range, split by the wrap quotient of a term's values.
 use Rattle.std.specs.Prelude.{◌≡◌, ◌≢◌, ◌↔◌, IsTrue, ℤ, pos, negsuc, ◌*ℤ◌, List, Option, None, Some}
 use Rattle.cs_ranges.specs.declared.range_set.Interval.{Interval}
 use Rattle.cs_ranges.specs.RangeSet.{contains, IsInhabited}
@@ -15,7 +15,7 @@ use Rattle.cs_terms.specs.Term.{value_at, IsTerm, HasNoOtherSymbol}
 abbrev pub Quotients : Type 0
 Quotients = ℤ → ℤ
 
--- the numbers of the range that have this quotient
+-- the numbers of the range with this quotient
 abbrev pub IsPiece : Quotients → List Interval → ℤ → List Interval → Type 0
 IsPiece quotient range q piece = (x : ℤ) → IsTrue (contains piece x) ↔ (IsTrue (contains range x) × (quotient x ≡ q))
 
@@ -23,7 +23,7 @@ IsPiece quotient range q piece = (x : ℤ) → IsTrue (contains piece x) ↔ (Is
 abbrev pub IsFar : ℤ → Type 0
 IsFar q = (q ≢ negsuc 0) × (q ≢ pos 0) × (q ≢ pos 1)
 
--- the numbers of the range that have any other quotient
+-- the numbers of the range with any other quotient
 abbrev pub IsFarPiece : Quotients → List Interval → List Interval → Type 0
 IsFarPiece quotient range piece = (x : ℤ) → IsTrue (contains piece x) ↔ (IsTrue (contains range x) × IsFar (quotient x))
 
@@ -53,7 +53,7 @@ pub record IsProductOn (model : DataModel) (ty : IntType) (term : Lin) (factor :
   pub is_term : IsTerm piece.product
   pub symbol : HasNoOtherSymbol piece.product.sym term.sym
 
--- the numbers of the range with this quotient, none where no number has it, and the wrapped product on them
+-- the numbers of the range with this quotient, and the wrapped product on them; none if no number has it
 abbrev pub IsProductPiece : DataModel → IntType → Lin → ℤ → List Interval → ℤ → Option Piece → Type 0
 IsProductPiece model ty term factor range q None = (x : ℤ) → IsTrue (contains range x) → product_quotient_of model ty term factor x ≢ q
 IsProductPiece model ty term factor range q (Some piece) = IsPiece (product_quotient_of model ty term factor) range q piece.range

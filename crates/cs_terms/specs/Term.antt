@@ -1,4 +1,4 @@
--- The value of a term under a valuation, which gives each symbol a number.
+-- The value of a term under a valuation, which is a number for each symbol.
 use Rattle.std.specs.Prelude.{◌≡◌, ◌≢◌, ℕ, ℤ, pos, ◌+ℤ◌, Option, None, Some}
 use Rattle.cs_ranges.specs.Affine.{affine}
 use Rattle.cs_terms.specs.declared.symbol.Sym.{Sym}
@@ -22,16 +22,16 @@ value_of valuation term = value_with valuation term.sym term.slope term.at term.
 abbrev pub value_of_sum : Valuation → Lin2 → ℤ
 value_of_sum valuation sum = value_of valuation sum.first +ℤ value_of valuation sum.second
 
--- a term's value where its symbol is this number
+-- a term's value if its symbol has this number
 abbrev pub value_at : Lin → ℤ → ℤ
 value_at term x = value_of (λ symbol. x) term
 
--- there is no symbol exactly where the slope is 0
+-- there is no symbol exactly if the slope is 0
 abbrev pub IsTermWith : Option Sym → ℤ → Type 0
 IsTermWith None slope = slope ≡ pos 0
 IsTermWith (Some sym) slope = slope ≢ pos 0
 
--- a term has a symbol exactly where its slope isn't 0
+-- a term has a symbol exactly if its slope isn't 0
 abbrev pub IsTerm : Lin → Type 0
 IsTerm term = IsTermWith term.sym term.slope
 
@@ -41,6 +41,6 @@ HaveTwoSymbols None other = ⊥
 HaveTwoSymbols (Some sym) None = ⊥
 HaveTwoSymbols (Some sym) (Some other) = sym ≢ other
 
--- the first symbol, where there is one, is the second
+-- the first symbol, if there is one, is the second
 abbrev pub HasNoOtherSymbol : Option Sym → Option Sym → Type 0
 HasNoOtherSymbol made given = (sym : Sym) → made ≡ Some sym → given ≡ Some sym

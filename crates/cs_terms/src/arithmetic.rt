@@ -9,7 +9,7 @@ use crate::symbol::Sym;
 use crate::term::{Lin, Lin2};
 use cs_ranges::affine_value;
 
-/// The sum, which is none where the terms have two different symbols.
+/// Returns the sum, or none if the terms have two different symbols.
 pub fn add(left: Lin, right: Lin) -> Option<Lin>
     requires left { IsTerm left }
     requires right { IsTerm right }
@@ -40,7 +40,7 @@ pub fn add(left: Lin, right: Lin) -> Option<Lin>
     }
 }
 
-// The sum of two terms over the same symbol, seen from the left one's number.
+// Returns the sum of two terms over the same symbol, given by its value at the left one's number.
 fn add_over_one(left: Lin, right: Lin, sym: Sym) -> Lin
     requires left { left.sym ≡ Some sym }
     requires right { right.sym ≡ Some sym }
@@ -59,7 +59,7 @@ fn add_over_one(left: Lin, right: Lin, sym: Sym) -> Lin
     )
 }
 
-/// The term times the factor.
+/// Returns the term times the factor.
 pub fn scale(term: Lin, factor: i128) -> Lin
     requires term { IsTerm term }
     requires room { CanScale term factor }
@@ -73,7 +73,7 @@ pub fn scale(term: Lin, factor: i128) -> Lin
     Lin::affine(term.sym, term.slope * factor, term.at, term.value * factor)
 }
 
-/// The difference, as the sum of the left term and the negative of the right one.
+/// Returns the difference, as the sum of the left term and the negative of the right one.
 pub fn diff(left: Lin, right: Lin) -> Lin2
     requires left { IsTerm left }
     requires right { IsTerm right }
@@ -98,7 +98,7 @@ pub fn diff(left: Lin, right: Lin) -> Lin2
     }
 }
 
-/// The sum as one term, which is none where the two have different symbols.
+/// Returns the sum as one term, or none if the two have different symbols.
 pub fn merged(term: Lin2) -> Option<Lin>
     requires first { IsTerm term.first }
     requires second { IsTerm term.second }

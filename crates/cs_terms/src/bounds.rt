@@ -1,4 +1,5 @@
-//! Whether the values of a term over a range keep within bounds, as an operation's exact results do that never wraps.
+//! Whether the values of a term over a range are within bounds, as the exact results of an operation that
+//! never wraps are.
 ghost use Rattle.std.specs.Prelude.{◌↔◌, ◌≤ℤ◌, ℤ, IsTrue};
 ghost use Rattle.cs_ranges.specs.Interval.{IsInside};
 ghost use Rattle.cs_ranges.specs.RangeSet.{contains};
@@ -10,8 +11,8 @@ use crate::type_range::{greatest_of_type, least_of_type};
 use cs_ranges::{RangeSet, affine_value};
 use cs_types::{DataModel, IntType};
 
-/// Whether the type has each value of the term over the range, so that an operation with the term as its exact result
-/// wraps nowhere there (C11 6.2.5, 6.3.1.3). It takes no memory.
+/// Whether the type can represent each value of the term over the range, so that an operation with the term
+/// as its exact result never wraps there (C11 6.2.5, 6.3.1.3). Allocates no memory.
 pub fn stays_within(model: DataModel, ty: IntType, term: Lin, range: &RangeSet) -> bool
     requires term { IsTerm term }
     requires values { (x : ℤ) → IsTrue (contains range.now x) → IsInside (value_at term x) }
@@ -25,8 +26,8 @@ pub fn stays_within(model: DataModel, ty: IntType, term: Lin, range: &RangeSet) 
     )
 }
 
-/// Whether each value of the term over the range is from `low` to `high`. A term rises or falls all along its range, so
-/// that its values at both ends of the range decide. It takes no memory.
+/// Whether each value of the term over the range is from `low` to `high`. A term is monotonic, so that its
+/// values at both ends of the range decide. Allocates no memory.
 pub fn stays_between(term: Lin, range: &RangeSet, low: i128, high: i128) -> bool
     requires term { IsTerm term }
     requires values { (x : ℤ) → IsTrue (contains range.now x) → IsInside (value_at term x) }

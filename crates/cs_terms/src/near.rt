@@ -19,7 +19,7 @@ pub struct Near {
 }
 
 impl Near {
-    /// By the quotients of the numbers themselves.
+    /// Returns the intervals for the quotients of the numbers themselves.
     pub fn of_type(model: DataModel, ty: IntType) -> Near
         ensures quotients { HaveQuotients (wrap_quotient model ty) result }
         ensures under { IsNarrow result.under }
@@ -33,7 +33,7 @@ impl Near {
         }
     }
 
-    /// By the quotients of the products with the factor.
+    /// Returns the intervals for the quotients of the products with the factor.
     pub fn cofactors(self, factor: i128) -> Near
         requires under { IsNarrow self.under }
         requires same { IsNarrow self.same }
@@ -54,7 +54,7 @@ impl Near {
     }
 }
 
-// The numbers with the quotient.
+// Returns the numbers with the quotient.
 fn with_quotient(model: DataModel, ty: IntType, number: i128) -> Interval
     requires { unsigned_abs number ≤ 1 }
     ensures numbers { HasQuotient (wrap_quotient model ty) number result }
@@ -69,7 +69,7 @@ fn with_quotient(model: DataModel, ty: IntType, number: i128) -> Interval
     }
 }
 
-// The numbers whose product with the factor lies in the interval.
+// Returns the numbers whose product with the factor is in the interval.
 fn cofactors(products: Interval, factor: i128) -> Interval
     requires narrow { IsNarrow products }
     requires factor { IsIntegerOfC factor }
@@ -89,7 +89,7 @@ fn cofactors(products: Interval, factor: i128) -> Interval
     positive_cofactors(products, factor)
 }
 
-// The numbers whose product with 0 lies in the interval: all numbers that a range can have, or none.
+// Returns the numbers whose product with 0 is in the interval: all numbers that a range can have, or none.
 fn zero_cofactors(products: Interval) -> Interval
     ensures numbers { (x : ℤ) → IsInside x
         → in_interval result x ≡ in_interval products (pos 0) }
@@ -105,7 +105,7 @@ fn zero_cofactors(products: Interval) -> Interval
     }
 }
 
-// The numbers whose product with a positive factor lies in the interval.
+// Returns the numbers whose product with a positive factor is in the interval.
 fn positive_cofactors(products: Interval, factor: i128) -> Interval
     requires narrow { IsNarrow products }
     requires positive { pos 0 <ℤ factor }

@@ -1,4 +1,4 @@
-//! A range cut by the wrap quotients of a term's values.
+//! A range, split by the wrap quotients of a term's values.
 ghost use Rattle.std.specs.Prelude.{◌≡◌, ℤ, IsTrue, IfOk};
 ghost use Rattle.cs_ranges.specs.Interval.{IsInside};
 ghost use Rattle.cs_ranges.specs.RangeSet.{contains};
@@ -21,7 +21,7 @@ pub struct Pieces {
     pub far: RangeSet,
 }
 
-/// Cuts the range of the term's symbol by the wrap quotient of the term's value.
+/// Splits the range of the term's symbol by the wrap quotient of the term's value.
 pub fn wrap_pieces(
     alloc: Global,
     model: DataModel,
@@ -36,7 +36,7 @@ pub fn wrap_pieces(
     cut(alloc, &Near::of_type(model, ty), term, range)
 }
 
-/// Cuts the range by which of three intervals has the term's value.
+/// Splits the range by which of three intervals contains the term's value.
 pub(crate) fn cut(
     alloc: Global,
     near: &Near,
@@ -62,7 +62,7 @@ pub(crate) fn cut(
     })
 }
 
-// The numbers of the range at which the term has a value in the interval.
+// Returns the numbers of the range at which the term has a value in the interval.
 fn at_values(
     alloc: Global,
     values: Interval,

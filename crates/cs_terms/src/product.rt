@@ -1,4 +1,4 @@
-//! A range cut by the wrap quotients of a term's values times a factor, with the wrapped products.
+//! A range, split by the wrap quotients of a term's values times a factor, with the wrapped products.
 ghost use Rattle.std.specs.Prelude.{◌≡◌, ℤ, ◌-ℤ◌, ◌*ℤ◌, IsTrue, IfOk, MatchOption, pos};
 ghost use Rattle.cs_ranges.specs.RangeSet.{contains, IsEmpty, IsInhabited};
 ghost use Rattle.cs_types.specs.IntType.{IsIntegerOfC};
@@ -19,8 +19,8 @@ pub struct Piece {
     pub product: Lin,
 }
 
-/// The parts of a range at which the wrap quotient of a product is -1, 0, 1 and any other number. One of the first
-/// three is none where it has no number.
+/// The parts of a range at which the wrap quotient of a product is -1, 0, 1 and any other number. Each of the
+/// first three is `None` if it has no number.
 #[derive(Debug, Drop)]
 pub struct ProductPieces {
     pub under: Option<Piece>,
@@ -29,8 +29,8 @@ pub struct ProductPieces {
     pub far: RangeSet,
 }
 
-/// Cuts the range of the term's symbol by the wrap quotient of the term's value times the factor. The product itself has
-/// no bound.
+/// Splits the range of the term's symbol by the wrap quotient of the term's value times the factor. The
+/// product itself has no bound.
 pub fn product_pieces(
     alloc: Global,
     model: DataModel,
@@ -61,7 +61,8 @@ pub fn product_pieces(
     })
 }
 
-// The range with the wrapped product on it, none where it has no number. The product has one wrap quotient there.
+// Returns the range with the wrapped product on it, or none if it is empty. The product has only one wrap
+// quotient there.
 fn product_on(
     model: DataModel,
     ty: IntType,
@@ -88,8 +89,8 @@ fn product_on(
     Some(Piece { range, product })
 }
 
-// The slope of the product on the range: any serves where the range has one number, and between two numbers it isn't
-// steeper than the type has numbers.
+// Returns the slope of the product on the range. For a range with one number any slope is right; with two
+// numbers, the slope is at most the size of the type's range.
 fn slope_on(model: DataModel, ty: IntType, term: Lin, factor: i128, range: &RangeSet) -> i128
     requires term { IsTerm term }
     requires inhabited { IsInhabited range.now }

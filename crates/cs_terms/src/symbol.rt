@@ -6,7 +6,7 @@ use cs_inputs::Path;
 #[derive(Clone, Copy, PartialEq, Eq, PartialOrd, Ord, Hash, Debug)]
 pub struct Sym(pub u64);
 
-/// What a symbol stands for.
+/// What a symbol represents.
 #[derive(Clone, Debug, Drop, PartialEq, Eq, PartialOrd, Ord, Hash)]
 pub enum SymName {
     /// The input at a path.

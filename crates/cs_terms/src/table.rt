@@ -1,4 +1,4 @@
-//! The table that gives symbols their numbers.
+//! The table of symbols.
 ghost use Rattle.std.specs.Prelude.{◌≡◌, ℕ, [], Some, slice_get, IfOk, OnOk, OnErr};
 ghost use Rattle.std.specs.Option.{option_copied};
 ghost use Rattle.indexmap.specs.IndexMap.{keys};
@@ -9,15 +9,15 @@ use crate::symbol::{Sym, SymName};
 use indexmap::IndexMap;
 use std::alloc::{AllocError, Global};
 
-/// The names of the symbols, each once, in the order in which they were first seen. A symbol's number is the place of
-/// its name.
+/// The names of the symbols, each once, in the order in which they were first seen. A symbol's number is the
+/// index of its name.
 #[derive(Drop)]
 pub struct SymTable {
     pub names: IndexMap<SymName, ()>,
 }
 
 impl SymTable {
-    /// No symbol has a name.
+    /// Returns an empty table.
     pub fn new(alloc: Global) -> SymTable
         ensures { keys result.names ≡ [] }
     {
@@ -26,7 +26,7 @@ impl SymTable {
         }
     }
 
-    /// The number of the name: the one that it has, or the next one.
+    /// Returns the number of the name: the one that it has, or the next one.
     pub fn number_of(&mut self, name: SymName) -> Result<Sym, AllocError>
         ensures name { IfOk result (λ sym. slice_get (keys self.new.names) sym.0 ≡ Some name) }
         ensures place { IfOk result (λ sym.
@@ -41,7 +41,7 @@ impl SymTable {
         Ok(Sym(place as u64))
     }
 
-    /// The name of the symbol, none where no name has its number.
+    /// Returns the name of the symbol, or none if no name has its number.
     pub fn name(&self, sym: Sym) -> Option<&SymName>
         ensures { option_copied result ≡ slice_get (keys self.now.names) sym.0 }
     {

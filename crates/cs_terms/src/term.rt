@@ -4,9 +4,9 @@ ghost use Rattle.cs_terms.specs.Term.{Valuation, value_of, value_with, IsTerm, H
 
 use crate::symbol::Sym;
 
-/// The term `value + slope * (sym - at)`, or the constant `value` where there is no symbol.
+/// The term `value + slope * (sym - at)`, or the constant `value` without a symbol.
 ///
-/// A term has no symbol exactly where its slope is 0.
+/// A term has no symbol exactly if its slope is 0.
 #[derive(Clone, Copy, PartialEq, Eq, Debug)]
 pub struct Lin {
     pub sym: Option<Sym>,
@@ -16,7 +16,7 @@ pub struct Lin {
 }
 
 impl Lin {
-    /// The affine function of the symbol, a constant where the slope is 0.
+    /// Returns the affine function of the symbol, a constant if the slope is 0.
     pub(crate) fn affine(sym: Option<Sym>, slope: i128, at: i128, value: i128) -> Lin
         requires { IsNone sym → slope ≡ pos 0 }
         ensures value { (v : Valuation) → value_of v result ≡ value_with v sym slope at value }

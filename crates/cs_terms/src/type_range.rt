@@ -4,21 +4,21 @@ ghost use Rattle.cs_types.specs.IntType.{least_of, greatest_of, modulus_of, nega
 
 use cs_types::{DataModel, IntType, bytes, is_signed};
 
-/// The least number of the type, as C11 5.2.4.2.1 names it `INT_MIN` and so on.
+/// Returns the least number of the type, as `INT_MIN` of C11 5.2.4.2.1.
 pub fn least_of_type(model: DataModel, ty: IntType) -> i128
     ensures { result ≡ least_of model ty }
 {
     -negatives(model, ty)
 }
 
-/// The greatest number of the type, as C11 5.2.4.2.1 names it `INT_MAX` and so on.
+/// Returns the greatest number of the type, as `INT_MAX` of C11 5.2.4.2.1.
 pub fn greatest_of_type(model: DataModel, ty: IntType) -> i128
     ensures { result ≡ greatest_of model ty }
 {
     modulus(model, ty) - negatives(model, ty) - 1
 }
 
-/// How many numbers the type has.
+/// Returns how many numbers the type has.
 pub(crate) fn modulus(model: DataModel, ty: IntType) -> i128
     ensures { result ≡ pos (modulus_of model ty) }
 {
@@ -30,7 +30,7 @@ pub(crate) fn modulus(model: DataModel, ty: IntType) -> i128
     }
 }
 
-// How many numbers the type has below 0.
+// Returns how many numbers the type has below 0.
 fn negatives(model: DataModel, ty: IntType) -> i128
     ensures { result ≡ pos (negatives_of model ty) }
 {

@@ -1,4 +1,4 @@
--- What is written after words doesn't depend on them: it can be written by itself and put after them.
+-- What is written after words doesn't depend on them: it can be written separately and appended.
 use Rattle.std.proofs.Common.{◌≡◌, ℕ, Bool, true, false, cond, ℤ, List, [], ◌∷◌, ◌++◌, length, sym, ap, refl, ◌∙◌, append_assoc}
 use Rattle.std.specs.Prelude.{fold, nat_lt}
 use Rattle.cs_word_lists.specs.Written.{LAST, with_word, with_natural, zigzag, with_integer, with_list}

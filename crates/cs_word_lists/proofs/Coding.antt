@@ -1,4 +1,4 @@
--- Bytes determine the words that they stand for, and words their bytes: for one more word, and for equality and hashing of keys.
+-- Bytes determine the words that they represent, and words their bytes: for one more word, and for equality and hashing of keys.
 use Rattle.std.proofs.Common.{◌≡◌, ℕ, zero, suc, ◌+◌, ◌-◌, ◌*◌, ◌/◌, ◌%◌, ◌^◌, ◌<◌, ◌≤◌, List, [], ◌∷◌, ◌++◌, length, refl, sym, ap}
 use Rattle.std.proofs.Common.{◌∙◌, arith, Bool, true, false, cond}
 use Rattle.std.specs.Prelude.{nat_lt}

@@ -1,4 +1,4 @@
--- The digest of a list after another one: for the contracts of `word`, `long` and `digest_after`.
+-- The digest of two joined lists: for the contracts of `word`, `long` and `digest_after`.
 use Rattle.std.proofs.Common.{◌≡◌, ℕ, ◌+◌, ◌*◌, ◌%◌, ◌^◌, List, [], ◌∷◌, ◌++◌, length, sym, ap, ◌∙◌, arith, length-append}
 use Rattle.std.proofs.lemmas.Nat.{pow-add, mul-mod_first, mul-mod}
 use Rattle.std.proofs.Math.Nat.{mul_assoc, add-mul, add_assoc, add-mod-mod, mod-add-mod}

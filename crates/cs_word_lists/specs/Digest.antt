@@ -1,5 +1,5 @@
--- A number for each list of words: the words, each one greater, as the digits of a number to a base, mod 2^64. Equal lists have equal digests,
--- and the digest of a list after another one comes of both digests and the length.
+-- A number for each list of words: the words, each increased by 1, as the digits of a number to a base, mod 2^64. Equal lists have equal
+-- digests, and the digest of two joined lists follows from both digests and the length of the second.
 use Rattle.std.specs.Prelude.{◌≡◌, ℕ, ◌+◌, ◌*◌, ◌%◌, ◌^◌, List, [], ◌∷◌, length}
 use Rattle.cs_word_lists.specs.Bytes.{bytes_of, words_in}
 
@@ -14,11 +14,11 @@ value_of (word ∷ words) = (word + 1) * BASE ^ length words + value_of words
 abbrev pub digest_of : List ℕ → ℕ
 digest_of words = value_of words % 2 ^ 64
 
--- what the digest of words before these is multiplied by
+-- the factor for the digest of preceding words
 abbrev pub power_of : List ℕ → ℕ
 power_of words = BASE ^ length words % 2 ^ 64
 
--- what is kept of words: their bytes, and both numbers
+-- what is kept for words: their bytes, and both numbers
 pub record IsKept (bytes : List ℕ) (digest power : ℕ) : Type 0 where
   pub whole : bytes ≡ bytes_of (words_in bytes)
   pub digest_is : digest ≡ digest_of (words_in bytes)

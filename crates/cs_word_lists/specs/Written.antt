@@ -1,4 +1,4 @@
--- What is written to a list of words: words, numbers of 128 bits, and lists.
+-- What is appended to a list of words: words, numbers of 128 bits, and lists.
 use Rattle.std.specs.Prelude.{ℕ, ◌+◌, ◌-◌, ◌*◌, ◌/◌, ◌%◌, ◌^◌, nat_lt, ℤ, pos, negsuc, List, [], ◌∷◌, ◌++◌, fold, length, if◌then◌else◌}
 
 -- one more word
@@ -9,11 +9,11 @@ with_word words word = words ++ word ∷ []
 abbrev pub LAST : ℕ
 LAST = 2 ^ 64 - 1
 
--- a number in two words, with the greatest word after them
+-- a number in two words, followed by the greatest word
 abbrev pub in_three_words : List ℕ → ℕ → List ℕ
 in_three_words words number = with_word (with_word (with_word words (number / 2 ^ 64)) (number % 2 ^ 64)) LAST
 
--- a number in one word if it is less than the last one, else in two, with that one after them
+-- a number in one word if it is less than the greatest one, else in two, followed by the greatest one
 abbrev pub with_natural : List ℕ → ℕ → List ℕ
 with_natural words number =
     if nat_lt number LAST then with_word words number else in_three_words words number
@@ -26,6 +26,6 @@ zigzag (negsuc number) = 2 * number + 1
 abbrev pub with_integer : List ℕ → ℤ → List ℕ
 with_integer words number = with_natural words (zigzag number)
 
--- a list: its elements, and how many there are
+-- a list: its elements, followed by their number
 abbrev pub with_list : {Item : Type 0} → (List ℕ → Item → List ℕ) → List ℕ → List Item → List ℕ
 with_list with_item words items = with_word (fold with_item words items) (length items)

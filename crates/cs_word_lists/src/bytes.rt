@@ -4,10 +4,10 @@ ghost use Rattle.cs_word_lists.specs.Bytes.{bytes_of_word};
 
 use std::alloc::AllocError;
 
-// The most bytes that a word has.
+// The greatest number of bytes of a word.
 const LONGEST: usize = 10;
 
-/// Appends the bytes of a word, all or none.
+/// Appends all bytes of a word, or none if the call runs out of memory.
 pub(crate) fn append_digits(bytes: &mut Vec<u8>, word: u64) -> Result<(), AllocError>
     ensures ok { OnOk result (bytes.new.items ≡ bytes.old.items ++ bytes_of_word word) }
     ensures err { OnErr result (bytes.new.items ≡ bytes.old.items) }

@@ -5,7 +5,7 @@ ghost use Rattle.cs_word_lists.specs.Written.{zigzag, in_three_words, with_natur
 use crate::words::Words;
 use std::alloc::AllocError;
 
-// An integer as a natural number: those near 0 stay small, whatever their sign.
+// Returns an integer as a natural number: integers near 0 stay small, whatever their sign.
 fn as_natural(number: i128) -> u128
     ensures { result ≡ zigzag number }
 {
@@ -16,7 +16,7 @@ fn as_natural(number: i128) -> u128
     }
 }
 
-/// The next count.
+/// Returns the count increased by 1.
 pub fn one_more(count: u64) -> Result<u64, AllocError>
     ensures { IfOk result (λ more. more ≡ count + 1) }
 {
@@ -27,7 +27,8 @@ pub fn one_more(count: u64) -> Result<u64, AllocError>
 }
 
 impl Words {
-    /// A natural number: in one word if it is less than the greatest word, else in two words with that one after them.
+    /// Appends a natural number: in one word if it is less than the greatest word, else in two words followed
+    /// by the greatest one.
     pub fn natural(&mut self, number: u128) -> Result<(), AllocError>
         ensures { OnOk result (self.new ≡ with_natural self.old number) }
     {
@@ -37,7 +38,7 @@ impl Words {
         self.wide(number)
     }
 
-    // A natural number in three words.
+    // Appends a natural number in three words.
     fn wide(&mut self, number: u128) -> Result<(), AllocError>
         ensures { OnOk result (self.new ≡ in_three_words self.old number) }
     {
@@ -46,7 +47,7 @@ impl Words {
         self.long(u64::MAX)
     }
 
-    /// An integer.
+    /// Appends an integer.
     pub fn integer(&mut self, number: i128) -> Result<(), AllocError>
         ensures { OnOk result (self.new ≡ with_integer self.old number) }
     {

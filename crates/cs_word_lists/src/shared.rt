@@ -1,4 +1,4 @@
-//! Words that several owners have in common.
+//! Words that several owners share.
 ghost use Rattle.std.specs.Prelude.{◌≡◌, IfOk};
 
 use crate::words::Words;
@@ -21,7 +21,7 @@ impl Model for SharedWords {
 }
 
 impl SharedWords {
-    /// Shares words.
+    /// Makes words shareable.
     pub fn new(alloc: Global, words: Words) -> Result<SharedWords, AllocError>
         ensures { IfOk result (λ shared. shared ≡ words) }
     {
@@ -30,7 +30,7 @@ impl SharedWords {
         })
     }
 
-    /// The words.
+    /// Returns the words.
     pub fn words(&self) -> &Words
         ensures { result.now ≡ self.now }
     {

@@ -7,14 +7,14 @@ use crate::bytes::append_digits;
 use std::alloc::{AllocError, Global};
 use std::marker::Model;
 
-// The base of digests, an odd number with bits all over.
+// The base of digests, an odd number whose bits are spread over all positions.
 const BASE: u64 = 0x9e37_79b9_7f4a_7c15;
 
 /// A list of words. A contract sees the list.
 ///
-/// The words are kept as their bytes, since most are small: a list is short, and is compared at once. Beside them stand a digest of the words,
-/// which lists are hashed by, and the power of its base that a list of this length takes: from both comes the digest of the list after
-/// another one.
+/// The words are kept as bytes, since most are small: a list is short, and is compared at once. With them are
+/// kept a digest of the words, used as their hash, and the power of its base for a list of this length: from
+/// both follows the digest of another list joined with this one.
 #[derive(Drop)]
 pub struct Words {
     bytes: Vec<u8>,
@@ -35,7 +35,7 @@ impl Model for Words {
 }
 
 impl Words {
-    /// No words.
+    /// Returns an empty list.
     pub fn new(alloc: Global) -> Words
         ensures { result ≡ [] }
     {
@@ -46,7 +46,7 @@ impl Words {
         }
     }
 
-    /// No words, and memory for so many bytes.
+    /// Returns an empty list, with memory for a number of bytes.
     pub fn with_capacity(alloc: Global, bytes: usize) -> Result<Words, AllocError>
         ensures { IfOk result (λ words. words ≡ []) }
     {
@@ -57,7 +57,7 @@ impl Words {
         })
     }
 
-    /// One more word.
+    /// Appends a word.
     #[inline]
     pub fn word(&mut self, word: u64) -> Result<(), AllocError>
         ensures ok { OnOk result (self.new ≡ self.old ++ word ∷ []) }
@@ -76,7 +76,7 @@ impl Words {
         self.long(word)
     }
 
-    /// One more word of any size. Most are less than 128, and are written without this call.
+    /// Appends a word of any size. Most words are less than 128, and are appended without this call.
     pub(crate) fn long(&mut self, word: u64) -> Result<(), AllocError>
         ensures ok { OnOk result (self.new ≡ self.old ++ word ∷ []) }
         ensures err { OnErr result (self.new ≡ self.old) }
@@ -91,7 +91,7 @@ impl Words {
         Ok(())
     }
 
-    /// The words of another list.
+    /// Appends the words of another list.
     pub fn append(&mut self, words: &Words) -> Result<(), AllocError>
         ensures { OnOk result (self.new ≡ self.old ++ words.now) }
     {
@@ -101,21 +101,21 @@ impl Words {
         Ok(())
     }
 
-    /// The bytes of the words.
+    /// Returns the bytes of the words.
     pub fn bytes(&self) -> &[u8]
         ensures { result.now ≡ bytes_of self.now }
     {
         self.bytes.as_slice()
     }
 
-    /// The digest of the words.
+    /// Returns the digest of the words.
     pub fn digest(&self) -> u64
         ensures { result ≡ digest_of self.now }
     {
         self.digest
     }
 
-    /// The digest of words after which these come, made one of all.
+    /// Returns the digest of other words followed by these, given the digest of the others.
     pub fn digest_after(&self, before: u64) -> u64
         ensures { (words : List ℕ) → before ≡ digest_of words
             → result ≡ digest_of (words ++ self.now) }

@@ -7,7 +7,7 @@ ghost use Rattle.cs_ranges.specs.RangeSet.{contains};
 use super::{Interval, RangeSet};
 use std::alloc::{AllocError, Global};
 
-/// The numbers `s` of `within` at which `value + slope * (s - at)` is in `set`.
+/// Returns the numbers `s` of `within` at which `value + slope * (s - at)` is in `set`.
 pub fn affine_preimage(
     alloc: Global,
     slope: i128,
@@ -34,7 +34,7 @@ pub fn affine_preimage(
     found.intersect(within)
 }
 
-/// The value of `value + slope * (s - at)`. It fits, so it is right although parts of it may wrap.
+/// Returns `value + slope * (s - at)`. It fits, so it is right although intermediate results may wrap.
 pub fn affine_value(slope: i128, at: i128, value: i128, s: i128) -> i128
     requires { IsInside (affine slope at value s) }
     ensures { result ≡ affine slope at value s }
@@ -42,8 +42,8 @@ pub fn affine_value(slope: i128, at: i128, value: i128, s: i128) -> i128
     value.wrapping_add(slope.wrapping_mul(s.wrapping_sub(at)))
 }
 
-/// A line that doesn't fall, over the numbers from `first` to `last`: it goes from `start` to `end`
-/// and rises by `slope` at each step.
+/// A line that doesn't fall, over the numbers from `first` to `last`: its values are from `start` to `end`,
+/// and it rises by `slope` at each step.
 #[derive(Drop)]
 struct Line {
     first: i128,
@@ -59,7 +59,7 @@ struct Line {
 impl Line {
     ghost use Rattle.cs_ranges.specs.Line.{is_over, value_of, IsPreimage};
 
-    /// The line of an affine function's values, or, where these fall, of their negatives.
+    /// Returns the line of an affine function's values, or of their negatives if the values fall.
     fn rising(slope: i128, at: i128, value: i128, first: i128, last: i128) -> Line
         requires over { IsInside first × IsInside last × (first ≤ℤ last) }
         requires inside { IsInside (affine slope at value first)
@@ -91,7 +91,7 @@ impl Line {
         }
     }
 
-    /// The numbers from `first` to `last` at which the line has a value in the set.
+    /// Returns the numbers from `first` to `last` at which the line has a value in the set.
     fn preimage(&self, alloc: Global, set: &RangeSet) -> Result<RangeSet, AllocError>
         ensures { IfOk result (λ p.
             (s : ℤ) → contains p s
@@ -107,7 +107,7 @@ impl Line {
         Ok(found)
     }
 
-    /// The numbers from `first` to `last` at which the set has the negative of the line's value.
+    /// Returns the numbers from `first` to `last` at which the set has the negative of the line's value.
     fn preimage_of_negatives(&self, alloc: Global, set: &RangeSet) -> Result<RangeSet, AllocError>
         ensures { IfOk result (λ p.
             (s : ℤ) → contains p s
@@ -116,7 +116,7 @@ impl Line {
         self.preimage(alloc, &set.negated(alloc)?)
     }
 
-    /// The numbers at which the line has a value in the interval.
+    /// Returns the numbers at which the line has a value in the interval.
     fn numbers_in(&self, interval: Interval) -> Interval
         requires { IsProper interval }
         ensures { IsPreimage self.now interval result }
@@ -127,7 +127,7 @@ impl Line {
         }
     }
 
-    /// Where the line comes to `low`; after `last` where it stays below.
+    /// Returns the first number at which the line is at least `low`, or `last + 1` if it stays below.
     fn first_at_least(&self, low: i128) -> i128
         requires { IsInside low }
         ensures from { self.now.first ≤ℤ result }
@@ -144,7 +144,7 @@ impl Line {
         }
     }
 
-    /// Up to where the line is at most `high`; before `first` where it is above from the start.
+    /// Returns the last number at which the line is at most `high`, or `first - 1` if it is above from the start.
     fn last_at_most(&self, high: i128) -> i128
         requires { IsInside high }
         ensures upto { result ≤ℤ self.now.last }
@@ -161,7 +161,7 @@ impl Line {
         }
     }
 
-    /// In how many whole steps the line rises by no more than `rise`.
+    /// Returns in how many whole steps the line rises by at most `rise`.
     fn steps_within(&self, rise: u128) -> i128
         requires { (self.now.start +ℤ pos rise) <ℤ self.now.end }
         ensures steps { result ≡ pos (rise / self.now.slope) }

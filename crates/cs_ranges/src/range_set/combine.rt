@@ -1,4 +1,4 @@
-//! Sets made of other sets.
+//! Sets that are made from other sets.
 ghost use Rattle.std.specs.Prelude.{◌≡◌, ℤ, neg_ℤ, ◌≤ℤ◌, [], ◌&&◌, ◌||◌, not, IfOk, OnOk};
 ghost use Rattle.std.specs.Int.{int_max};
 ghost use Rattle.cs_ranges.specs.Interval.{IsInside, IsProper, in_interval};
@@ -8,7 +8,7 @@ use super::{GREATEST, Interval, LEAST, RangeSet};
 use std::alloc::{AllocError, Global};
 
 impl RangeSet {
-    /// The numbers that both sets have.
+    /// Returns the numbers that both sets have.
     pub fn intersect(&self, other: &RangeSet) -> Result<RangeSet, AllocError>
         ensures { IfOk result (λ s.
             (x : ℤ) → contains s x ≡ (contains self.now x && contains other.now x)) }
@@ -48,7 +48,7 @@ impl RangeSet {
         Ok(())
     }
 
-    /// The numbers that either set has.
+    /// Returns the numbers that either set has.
     pub fn union(&self, other: &RangeSet) -> Result<RangeSet, AllocError>
         ensures { IfOk result (λ s.
             (x : ℤ) → contains s x ≡ (contains self.now x || contains other.now x)) }
@@ -73,7 +73,7 @@ impl RangeSet {
         Ok(joined)
     }
 
-    /// Adds intervals, of which the first begins no earlier than the last one of the set.
+    /// Adds intervals, the first of which begins no earlier than the last one of the set.
     fn push_all(&mut self, intervals: &[Interval]) -> Result<(), AllocError>
         requires spread { IsSpread intervals.now }
         requires following { IsSpreadFrom (last_low self.old) intervals.now }
@@ -87,7 +87,7 @@ impl RangeSet {
         Ok(())
     }
 
-    /// The numbers of this set that the other one hasn't.
+    /// Returns the numbers of this set that aren't in the other one.
     pub fn minus(&self, other: &RangeSet) -> Result<RangeSet, AllocError>
         ensures { IfOk result (λ s.
             (x : ℤ) → contains s x ≡ (contains self.now x && not (contains other.now x))) }
@@ -96,7 +96,7 @@ impl RangeSet {
         self.intersect(&others)
     }
 
-    /// The numbers from `LEAST` to `GREATEST` that the set hasn't.
+    /// Returns the numbers from `LEAST` to `GREATEST` that aren't in the set.
     fn complement(&self, alloc: Global) -> Result<RangeSet, AllocError>
         ensures { IfOk result (λ s.
             (x : ℤ) → IsInside x → contains s x ≡ not (contains self.now x)) }
@@ -121,7 +121,7 @@ impl RangeSet {
         Ok(gaps)
     }
 
-    /// The numbers whose negatives the set has.
+    /// Returns the negatives of the set's numbers.
     pub(super) fn negated(&self, alloc: Global) -> Result<RangeSet, AllocError>
         ensures { IfOk result (λ s. (x : ℤ) → contains s x ≡ contains self.now (neg_ℤ x)) }
     {

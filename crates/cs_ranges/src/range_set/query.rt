@@ -1,4 +1,4 @@
-//! What is asked of a set: none of these questions takes memory.
+//! Queries of a set, which allocate no memory.
 ghost use Rattle.std.specs.Prelude.{◌≡◌, ℤ, ◌⊎◌, ◌≤ℤ◌, IsTrue, IfSome, MatchOption};
 ghost use Rattle.std.specs.Bool.{MatchBool};
 ghost use Rattle.cs_ranges.specs.Interval.{IsInside, in_interval};
@@ -24,7 +24,7 @@ impl RangeSet {
         self.intervals.is_empty()
     }
 
-    /// The set's number, where it has exactly one.
+    /// Returns the set's number, if it has exactly one.
     pub fn is_single(&self) -> Option<i128>
         ensures { MatchOption result (IsEmpty self.now ⊎ HasTwo self.now) (IsOnly self.now) }
     {
@@ -34,7 +34,7 @@ impl RangeSet {
         }
     }
 
-    /// The number of least absolute value, the positive one of two.
+    /// Returns the number of least absolute value, the positive one of two.
     pub fn least_abs(&self) -> Option<i128>
         ensures { MatchOption result (IsEmpty self.now) (IsLeastAbs self.now) }
     {
@@ -49,7 +49,7 @@ impl RangeSet {
         least
     }
 
-    /// The least number.
+    /// Returns the least number.
     pub fn least(&self) -> Option<i128>
         ensures least { MatchOption result (IsEmpty self.now) (IsLeast self.now) }
         ensures inside { IfSome result IsInside }
@@ -60,7 +60,7 @@ impl RangeSet {
         }
     }
 
-    /// The greatest number.
+    /// Returns the greatest number.
     pub fn greatest(&self) -> Option<i128>
         ensures greatest { MatchOption result (IsEmpty self.now) (IsGreatest self.now) }
         ensures inside { IfSome result IsInside }
@@ -71,7 +71,7 @@ impl RangeSet {
         }
     }
 
-    /// How many numbers the set has.
+    /// Returns how many numbers the set has.
     pub fn count(&self) -> u128
         ensures { IsCount self.now result }
     {
@@ -83,7 +83,7 @@ impl RangeSet {
     }
 }
 
-/// The number of an interval that is nearest to zero.
+/// Returns the number of an interval that is nearest to zero.
 fn nearest_to_zero(interval: Interval) -> i128
     requires { interval.low ≤ℤ interval.high }
     ensures member { IsTrue (in_interval interval result) }
@@ -92,7 +92,7 @@ fn nearest_to_zero(interval: Interval) -> i128
     0i128.clamp(interval.low, interval.high)
 }
 
-/// The one of two numbers that is nearer to zero, the positive one where both are as near.
+/// Returns which of two numbers is nearer to zero; if both are equally near, the positive one.
 fn nearer(a: i128, b: i128) -> i128
     ensures one { (result ≡ a) ⊎ (result ≡ b) }
     ensures not_after_a { IsNearest result a }

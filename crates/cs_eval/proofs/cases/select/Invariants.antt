@@ -1,4 +1,4 @@
--- The pieces of the cases before the number were made, and the numbers that take none of these are left.
+-- The pieces of the cases before this number are made, and the numbers that take none of these cases remain.
 use Rattle.cs_eval.specs.Cases.{AreFirst, AreLeft}
 use Rattle.cs_eval.proofs.cases.select.Given as goal
 
