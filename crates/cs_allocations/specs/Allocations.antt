@@ -1,4 +1,4 @@
--- What is known of the allocations of a well-formed program.
+-- The allocations of a well-formed program.
 use Rattle.cs_ast.specs.TypedProgram.{TypedProgram}
 use Rattle.cs_lower.specs.Allocations.{AllocationsHaveArguments}
 use Rattle.cs_well_formed.specs.Programs.{IsWellFormed}

@@ -1,4 +1,4 @@
-//! A law about well-formed programs: what lowering takes as a premise, so that each of them has its code.
+//! A law about well-formed programs: a premise of lowering, so that each of them has its code.
 #![tactic(auto)]
 
 ghost use Rattle.cs_allocations.specs.Allocations.{WellFormedProgramsAllocate};

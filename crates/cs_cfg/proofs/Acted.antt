@@ -1,5 +1,5 @@
--- What one operation of the code does with the newest temporaries, as the first thing to do does with the newest values: it answers.
--- Calls stand elsewhere. For the simulation.
+-- An operation of the code acts on the newest temporaries as the machine's first thing to do acts on the newest values: it answers.
+-- Calls are elsewhere. For the simulation.
 use Rattle.std.proofs.Common.{◌≡◌, ℕ, suc, ◌+◌, List, ◌∷◌, length, drop, Option, Some, None, arith, refl, ◌∙◌}
 use Rattle.cs_types.specs.Shape.{Shape}
 use Rattle.cs_ast.specs.declared.place.Place.{Place}

@@ -1,4 +1,4 @@
--- What an expression does with its parts, the operation of the code does with its operands.
+-- The operation of the code does with its operands what an expression does with its parts.
 use Rattle.std.proofs.Common.{◌≡◌, ℕ, zero, suc, ◌+◌, List, [], ◌∷◌, drop, length, Bool, true, false, Option, Some, None, arith, refl, ap}
 use Rattle.std.proofs.Common.{◌∙◌, unwrap_or}
 use Rattle.cs_types.specs.Shape.{Shape, integer}

@@ -1,4 +1,4 @@
--- What the code of each statement brings in: no control points but those of the statement. For the builder of a graph.
+-- The code of each statement adds no control points but those of the statement. For the builder of a graph.
 use Rattle.std.proofs.Common.{◌≡◌, ℕ, ◌+◌, List, [], ◌∷◌, ◌++◌, Option, Some, refl}
 use Rattle.std.proofs.lemmas.List.Elements.{All-contains_itself}
 use Rattle.cs_ast.specs.declared.place.Place.{Place}

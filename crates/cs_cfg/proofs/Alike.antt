@@ -1,4 +1,4 @@
--- Each operation reports the same of two states where what comes after it does.
+-- Each operation does the same in two states if what comes after it does.
 use Rattle.std.proofs.Common.{ℕ, ◌+◌, ◌*◌, ℤ, pos, int_le, int_lt, int_eq, ◌&&◌, ◌||◌, Bool, true, false, List, [], ◌∷◌, Option, Some}
 use Rattle.std.proofs.Common.{None, unwrap_or, if◌then◌else◌}
 use Rattle.cs_types.specs.Shape.{Shape, void, integer, pointer, array, struct}

@@ -1,4 +1,4 @@
--- What stands at a point where jumps lead to what is to be done: for jumps of the program and for statements in a row.
+-- A point with jumps to the code of the things to do: for jumps of the program and for consecutive statements.
 use Rattle.std.proofs.Common.{ℕ, zero, suc, ◌+◌, List, ◌∷◌, refl}
 use Rattle.cs_ast.specs.TypedTree.{Statement, Statements, Empty, Then}
 use Rattle.cs_ast.specs.TypedProgram.{TypedProgram, Routine}

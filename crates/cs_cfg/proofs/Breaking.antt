@@ -1,4 +1,4 @@
--- Where `break` and `continue` lead, what the reference machine has to do there stands (C11 6.8.6.2, 6.8.6.3).
+-- At the targets of `break` and `continue` is the code of what the reference machine has to do there (C11 6.8.6.2, 6.8.6.3).
 use Rattle.std.proofs.Common.{◌≡◌, ℕ, List, [], ◌∷◌, Option, Some, None, refl, sym, subst}
 use Rattle.cs_ast.specs.declared.place.Place.{Place}
 use Rattle.cs_ast.specs.TypedTree.{Of, Form, And, Or, Choice, Update, Move, Statement, If, IfElse, While, Do, For, Switch}

@@ -1,4 +1,4 @@
--- Words for small graphs by hand, and for how runs of code end beside those of the reference machine.
+-- Definitions for small graphs made by hand, and for how runs of code end compared with those of the reference machine.
 use Rattle.std.proofs.Common.{ℕ, true, false, Option, Some, None}
 use Rattle.cs_types.specs.Shape.{Shape}
 use Rattle.cs_ast.specs.TypedProgram.{TypedProgram}

@@ -1,4 +1,4 @@
--- Calls of functions with and without a body: what each reports. For the simulation.
+-- Calls of functions with and without a body do the same in related states. For the simulation.
 use Rattle.std.proofs.Common.{◌≡◌, ℕ, suc, ◌+◌, nat_lt, Bool, true, false, List, [], ◌∷◌, length, drop, Option, Some, None}
 use Rattle.std.proofs.Common.{if◌then◌else◌, refl, sym, ap, subst}
 use Rattle.cs_types.specs.Shape.{Shape, void, integer, pointer, array, struct}

@@ -1,5 +1,5 @@
--- What an expression does with its parts is no control point; `&&`, `||` and `?:` bring in no control points but their own, where the
--- point after was made a block, and their ways. For the builder of a graph.
+-- The operation of an expression is no control point; `&&`, `||` and `?:` add only their own control points and ways, if the
+-- point after them was made a block. For the builder of a graph.
 use Rattle.std.specs.Prelude.{⊤}
 use Rattle.std.proofs.Common.{◌≡◌, Option, Some, None, ℕ, pos, List, [], ◌∷◌, ◌++◌, refl}
 use Rattle.cs_types.specs.Shape.{Shape}

@@ -1,4 +1,4 @@
--- The way that the first part of `&&`, `||` or `?:` says: the machine and the code's run go it together. For the simulation.
+-- The machine and the code's run take the same branch, which the first operand of `&&`, `||` or `?:` selects. For the simulation.
 use Rattle.std.proofs.Common.{◌≡◌, ℕ, suc, ◌+◌, ℤ, pos, Bool, true, false, not, if◌then◌else◌, List, ◌∷◌, length, drop, arith, refl}
 use Rattle.std.proofs.Common.{sym, ap, ◌∙◌, subst}
 use Rattle.cs_types.specs.Shape.{Shape}

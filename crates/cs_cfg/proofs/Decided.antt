@@ -1,4 +1,4 @@
--- A test decides the way of a statement, and a number the case of a `switch`, in the simulation (C11 6.8.4).
+-- A test selects the branch of a statement, and a number the case of a `switch`, in the simulation (C11 6.8.4).
 use Rattle.std.proofs.Common.{◌≡◌, ℕ, suc, ◌+◌, Bool, true, false, List, ◌∷◌, length, drop, Option, if◌then◌else◌, arith, refl, sym}
 use Rattle.cs_ast.specs.declared.place.Place.{Place}
 use Rattle.cs_ast.specs.TypedTree.{Typed, Statement, If, IfElse, While, Do, For, Statements}

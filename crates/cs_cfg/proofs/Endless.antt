@@ -1,4 +1,4 @@
--- Jumps that lead on from a spot more often than the function has blocks lead on for ever: for `Code::settled`.
+-- If a spot is followed by more jumps than the function has blocks, they never end: for `Code::settled`.
 use Rattle.std.specs.Prelude.{◌⊎◌}
 use Rattle.std.proofs.Common.{◌≡◌, ℕ, zero, suc, ◌+◌, ◌-◌, ◌<◌, ◌≤◌, nat_lt, Bool, true, false, Option, Some, None, inl, inr, refl}
 use Rattle.std.proofs.Common.{sym, ap, ◌∙◌, subst, arith, length}

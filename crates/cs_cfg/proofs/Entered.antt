@@ -1,4 +1,4 @@
--- Where a function begins: the frame that the code enters stands for the machine's. For the simulation.
+-- The beginning of a function: the frame that the code enters represents the machine's. For the simulation.
 use Rattle.std.proofs.Common.{◌≡◌, ℕ, Some, unwrap_or, replicate, refl, sym, ap, ◌∙◌, subst}
 use Rattle.cs_ast.specs.TypedTree.{Statement, Block, Empty}
 use Rattle.cs_ast.specs.TypedProgram.{TypedProgram, Routine}

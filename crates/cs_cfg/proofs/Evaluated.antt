@@ -1,4 +1,4 @@
--- What evaluating an expression puts on the machine's list stands at the point where the expression stood. For the simulation.
+-- The point of an expression has the code of what evaluating it puts on the machine's list. For the simulation.
 use Rattle.std.proofs.Common.{◌≡◌, ℕ, suc, ◌+◌, List, ◌∷◌, length, arith, refl, sym, subst}
 use Rattle.cs_types.specs.Shape.{Shape, void, integer, pointer, array, struct}
 use Rattle.cs_ast.specs.declared.place.Place.{Place}

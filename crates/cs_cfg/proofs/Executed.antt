@@ -1,5 +1,5 @@
--- Executing a statement: the machine goes on silently to the statement's parts, which stand at the same point, or reaches a label; what the
--- code does first is a jump or one operation. For the simulation.
+-- The execution of a statement: the machine takes a silent step to the statement's parts, whose code is at the same point, or reaches a label;
+-- the code's first step is a jump or one operation. For the simulation.
 use Rattle.std.proofs.Common.{◌≡◌, ℕ, ◌+◌, nat_lt, List, [], ◌∷◌, length, Option, Some, None, slice_get, arith, refl, sym, ap, subst}
 use Rattle.cs_ast.specs.declared.place.Place.{Place}
 use Rattle.cs_ast.specs.declared.typed.statement.Case.{Case}

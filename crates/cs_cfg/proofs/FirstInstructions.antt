@@ -1,4 +1,4 @@
--- What stands first at a number in a block: for `Code::instruction_at`.
+-- The instruction with a number in a block: for `Code::instruction_at`.
 use Rattle.std.proofs.Common.{◌≡◌, ℕ, zero, suc, ◌+◌, ◌<◌, List, [], ◌∷◌, length, map, Some, None, Bor, arith, refl, sym, ap, ◌∙◌}
 use Rattle.std.specs.Prelude.{option_map, slice_get}
 use Rattle.std.specs.Slice.{IsItemAt}

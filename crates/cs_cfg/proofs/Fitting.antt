@@ -1,4 +1,4 @@
--- How it is kept that all control points in the blocks of a graph fit those of a list, while code is put together from its end. For the
+-- All control points in the blocks of a graph fit those of a list, also after a step of building code from its end. For the
 -- builder of a graph.
 use Rattle.std.specs.Prelude.{◌⊎◌, Contains, slice_get}
 use Rattle.std.specs.List.{All}

@@ -1,5 +1,5 @@
--- Runs of the lowering of a program follow its flow: for the law `lowered_code_follows_flow`. After a control point was left, each frame
--- with its number stands where the graph meets next what the flow names; frames that are called in between have other numbers.
+-- Runs of the lowering of a program follow its flow: for the law `lowered_code_follows_flow`. After a control point, each frame
+-- with its number is at a point where the graph reaches next what the flow names; frames called in between have other numbers.
 use Rattle.std.specs.Prelude.{⊤, ◌<◌, ◌≤◌, ◌⊎◌, Contains}
 use Rattle.std.proofs.Common.{◌≡◌, ℕ, true, List, [], ◌∷◌, map, inl, inr, Option, Some, None, unwrap_or, arith, refl, sym, ap, ◌∙◌}
 use Rattle.std.proofs.Common.{subst}

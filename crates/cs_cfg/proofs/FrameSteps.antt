@@ -1,4 +1,4 @@
--- Where a step of the code's run leaves its frames: the frame that runs goes on at the next point, calls another, or is left. For the laws
+-- The frames after a step of the code's run: the current frame is at the next point, calls another, or ends. For the laws
 -- `lowered_code_follows_flow` and `programs_follow_flow`.
 use Rattle.std.specs.Prelude.{⊤}
 use Rattle.std.proofs.Common.{◌≡◌, ℕ, ◌+◌, nat_lt, ℤ, Bool, true, false, List, [], ◌∷◌, length, map, Option, Some, None}

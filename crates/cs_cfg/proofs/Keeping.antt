@@ -1,4 +1,4 @@
--- Points that are in a graph: where a point is what is left of a block, so is each point to which it goes on. For the control points of
+-- Points in a graph: if a point is the rest of a block, so is each point at which it continues. For the control points of
 -- placed code.
 use Rattle.std.specs.Prelude.{◌⊎◌, Contains, slice_get}
 use Rattle.std.proofs.Common.{◌≡◌, ℕ, zero, suc, List, [], ◌∷◌, ◌++◌, Option, Some, None, unwrap_or, refl, sym, ap, ◌∙◌, subst, inl}

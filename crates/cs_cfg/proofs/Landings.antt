@@ -1,5 +1,5 @@
--- Where a label stands in what a graph executes, a `goto` lands: the point to which it leads reaches the label's counted point, and what the
--- reference machine has to do from there stands after it (C11 6.8.6.1).
+-- A `goto` to a label in the code of a statement: the point to which it leads reaches the label's counted point, and the code of what the
+-- reference machine has to do from there follows (C11 6.8.6.1).
 use Rattle.std.proofs.Common.{◌≡◌, ℕ, ◌+◌, ◌==◌, Bool, true, false, List, [], ◌∷◌, Option, Some, None, option_map, if◌then◌else◌}
 use Rattle.std.proofs.Common.{refl, ap, ◌∙◌, subst, eqb-true}
 use Rattle.cs_ast.specs.declared.place.Place.{Place}

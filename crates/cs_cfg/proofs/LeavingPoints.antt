@@ -1,5 +1,5 @@
--- A step that leaves a control point shows the way, and leaves the frame that runs where the graph goes on by it: for the laws
--- `lowered_code_follows_flow` and `programs_follow_flow`.
+-- A step from a control point shows the way that it takes, after which the current frame is where the graph continues on this way: for the
+-- laws `lowered_code_follows_flow` and `programs_follow_flow`.
 use Rattle.std.specs.Prelude.{◌⊎◌}
 use Rattle.std.proofs.Common.{◌≡◌, ℕ, suc, ◌+◌, nat_lt, ℤ, Bool, true, false, List, [], ◌∷◌, ◌++◌, length, map, Option, Some, None}
 use Rattle.std.proofs.Common.{slice_get, inl, inr}

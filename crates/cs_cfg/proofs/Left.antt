@@ -1,4 +1,4 @@
--- The beginning and the end of a function's body, and frames that are left, in the simulation (C11 6.8.6.4, 6.9.1).
+-- The beginning and the end of a function's body, and the ends of frames, in the simulation (C11 6.8.6.4, 6.9.1).
 use Rattle.std.proofs.Common.{◌≡◌, ℕ, suc, ◌+◌, List, [], ◌∷◌, length, arith, refl, sym, ap, subst}
 use Rattle.cs_ast.specs.declared.place.Place.{Place}
 use Rattle.cs_ast.specs.TypedProgram.{TypedProgram}

@@ -1,4 +1,4 @@
--- Loops in the simulation: their heads are reached, and after their bodies the code goes back to them (C11 6.8.5).
+-- Loops in the simulation: their heads are reached, and after their bodies the code returns to them (C11 6.8.5).
 use Rattle.std.proofs.Common.{◌≡◌, ℕ, ◌+◌, List, ◌∷◌, length, Option, Some, None, refl, sym, subst}
 use Rattle.cs_ast.specs.declared.place.Place.{Place}
 use Rattle.cs_ast.specs.TypedTree.{Typed, Statement, While, Do, For, Statements}

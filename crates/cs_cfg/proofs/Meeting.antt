@@ -1,5 +1,5 @@
--- What is met next from a point on follows from where code is placed: an expression, or a statement, is entered at its first control
--- point, or at what is met after it. For the control points of placed code.
+-- What is reached next from a point on follows from placing: an expression, or a statement, is entered at its first control
+-- point, or at what is reached after it. For the control points of placed code.
 use Rattle.std.proofs.Common.{◌≡◌, ℕ, suc, ◌+◌, ℤ, List, [], Some, None, refl, sym, subst}
 use Rattle.cs_types.specs.Shape.{Shape, void, integer, pointer, array, struct}
 use Rattle.cs_ast.specs.declared.place.Place.{Place}

@@ -1,4 +1,4 @@
--- How states of the machine and of the code's run stay related: silent jumps first, and one operation for one thing to do. For the
+-- States of the machine and of the code's run stay related: after silent jumps, and after one operation for one thing to do. For the
 -- simulation.
 use Rattle.std.proofs.Common.{◌≡◌, ℕ, suc, ◌+◌, ◌-◌, List, ◌∷◌, length, drop, Option, Some, unwrap_or, if◌then◌else◌, Bool, arith}
 use Rattle.std.proofs.Common.{refl, sym, ap, ◌∙◌, subst}

@@ -1,4 +1,4 @@
--- What is so of acts, whatever is looked up, asked and reached on the way, is so of each operation where it is so of what comes after.
+-- A property of acts for all lookups, operations and accesses on the way holds for each operation if it holds for what comes after it.
 use Rattle.std.proofs.Common.{ℕ, ◌+◌, ◌*◌, ℤ, pos, int_le, int_lt, int_eq, ◌&&◌, ◌||◌, Bool, true, false, List, [], ◌∷◌, Option, Some}
 use Rattle.std.proofs.Common.{None, unwrap_or, if◌then◌else◌}
 use Rattle.std.specs.Prelude.{⊤}

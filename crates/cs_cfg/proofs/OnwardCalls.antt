@@ -1,4 +1,4 @@
--- The same of calls, allocations, releases and counted points.
+-- The same for calls, allocations, releases and counted points.
 use Rattle.std.proofs.Common.{ℕ, ◌+◌, nat_lt, ℤ, pos, int_eq, Bool, true, false, List, [], ◌∷◌, length, Option, Some, None, unwrap_or}
 use Rattle.cs_types.specs.DataModel.{size_type_of}
 use Rattle.cs_types.specs.Shape.{Shape, void, integer, pointer, array, struct}

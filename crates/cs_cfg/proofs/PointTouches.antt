@@ -1,4 +1,4 @@
--- Steps touch a control point just where a run stands at one: for the laws `lowered_code_follows_flow` and `programs_follow_flow`.
+-- Steps touch a control point exactly where a run is at one: for the laws `lowered_code_follows_flow` and `programs_follow_flow`.
 use Rattle.std.proofs.Common.{◌≡◌, ℕ, true, false, List, [], ◌∷◌, ◌++◌, inl, inr, Option, Some, None, refl, sym, ap, ◌∙◌, subst}
 use Rattle.std.specs.Prelude.{option_map}
 use Rattle.std.specs.Option.{option_to_list}

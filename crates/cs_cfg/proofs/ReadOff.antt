@@ -1,4 +1,4 @@
--- The graph of a function has just the control points of its statements, where it executes the function's body and its blocks fit them.
+-- The graph of a function has exactly the control points of its statements, if it executes the function's body and its blocks fit them.
 -- For the law on placed code whose blocks fit.
 use Rattle.std.specs.Prelude.{Contains}
 use Rattle.std.proofs.Common.{◌≡◌, ℕ, [], Option, Some, None, refl, sym, ap, ◌∙◌, subst}

@@ -1,4 +1,4 @@
--- States of the machine and of the code's run that are related: frame by frame, the point does what is still to be done.
+-- The relation of states of the machine and of the code's run: frame by frame, the point does what is still to do.
 use Rattle.std.proofs.Common.{◌≡◌, ℕ, suc, List, [], ◌∷◌, length, Some}
 use Rattle.cs_ast.specs.TypedTree.{Statement}
 use Rattle.cs_ast.specs.TypedProgram.{TypedProgram}

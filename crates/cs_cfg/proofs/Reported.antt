@@ -1,4 +1,4 @@
--- What stands at a number in a block touches: for `Code::touch`.
+-- The touch of the instruction with a number in a block: for `Code::touch`.
 use Rattle.std.proofs.Common.{◌≡◌, ℕ, zero, suc, ◌-◌, ◌<◌, List, [], ◌∷◌, length, map, Some, None, Bor, arith, refl, sym, ap, ◌∙◌}
 use Rattle.std.specs.Prelude.{option_map, slice_get}
 use Rattle.std.specs.Slice.{IsItemAt}

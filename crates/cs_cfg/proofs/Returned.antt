@@ -1,4 +1,4 @@
--- Where a run is done, the code's run has come to a state that returns what the reference machine's does, with the same memory.
+-- If a run is done, the code's run is in a state that returns what the reference machine's does, with the same memory.
 use Rattle.std.specs.Prelude.{◌⊎◌}
 use Rattle.std.proofs.Common.{◌≡◌, inl, inr, ℕ, List, [], ◌∷◌, length, Some, refl, sym, ap, ◌∙◌, subst}
 use Rattle.cs_ast.specs.TypedTree.{Statement}

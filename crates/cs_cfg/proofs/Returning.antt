@@ -1,4 +1,4 @@
--- No operation returns from a run, or touches the end of a function, where what comes after it doesn't: at most it ends the run with a
+-- No operation returns from a run, or touches the end of a function, if what comes after it doesn't: at most it ends the run with a
 -- fault, or over a budget.
 use Rattle.std.specs.Prelude.{⊤}
 use Rattle.std.proofs.lemmas.List.{append-nil}

@@ -1,4 +1,4 @@
--- The runs of code that is placed end as those of the reference machine do, and the same is pending in them.
+-- The runs of placed code end as those of the reference machine do, with the same pending at each event.
 use Rattle.std.proofs.Common.{◌≡◌, ℕ, Option, Some, None, unwrap_or, refl, sym, subst}
 use Rattle.cs_ast.specs.TypedTree.{Statement}
 use Rattle.cs_ast.specs.TypedProgram.{TypedProgram}

@@ -1,4 +1,4 @@
--- Samples: the text of a flow, and small graphs by hand whose runs end as those of the reference machine.
+-- Samples: the text of a flow, and small graphs made by hand whose runs end as those of the reference machine.
 use Rattle.std.proofs.Common.{◌≡◌, ℕ, pos, true, false, [], ◌∷◌, map, Some, None, refl, sym, ap, ◌∙◌}
 use Rattle.std.specs.List.{range_with_len}
 use Rattle.cs_types.specs.declared.int_type.IntType.TheVariants.{Int}

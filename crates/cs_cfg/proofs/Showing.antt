@@ -1,4 +1,4 @@
--- When control points of a list are in a graph with all of their ways, and how that is put together. For the control points of placed
+-- When control points of a list are in a graph with all of their ways, and how this is combined. For the control points of placed
 -- code.
 use Rattle.std.specs.List.{All}
 use Rattle.std.proofs.Common.{◌≡◌, ℕ, true, false, List, [], ◌∷◌, ◌++◌, Some}

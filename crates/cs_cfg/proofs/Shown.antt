@@ -1,4 +1,4 @@
--- Each control point of an expression is in the graph, with all of its ways, where the expression is placed at a point of the graph. For
+-- Each control point of an expression is in the graph, with all of its ways, if the expression is placed at a point of the graph. For
 -- the control points of placed code.
 use Rattle.std.proofs.Common.{◌≡◌, ℕ, suc, ◌+◌, pos, List, [], ◌∷◌, refl}
 use Rattle.cs_types.specs.Shape.{Shape}

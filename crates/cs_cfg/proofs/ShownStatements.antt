@@ -1,4 +1,4 @@
--- Each control point of a statement is in the graph, with all of its ways, where the statement is placed at a point of the graph. For the
+-- Each control point of a statement is in the graph, with all of its ways, if the statement is placed at a point of the graph. For the
 -- control points of placed code.
 use Rattle.std.proofs.Common.{ℕ, ◌+◌, List, [], ◌∷◌, Option, Some, None, refl, subst}
 use Rattle.cs_ast.specs.declared.place.Place.{Place}

@@ -1,4 +1,4 @@
--- The run of code that is placed follows the reference machine step by step: related states answer one another, whatever is to be done first.
+-- The run of placed code follows the reference machine step by step: each state answers those related to it, whatever is to do first.
 use Rattle.std.proofs.Common.{◌≡◌, ℕ, List, [], ◌∷◌, length, refl}
 use Rattle.cs_ast.specs.TypedTree.{Statement, Block, Declare, Run, If, IfElse, While, Do, For, Switch, Goto, Label, Break, Continue, Return}
 use Rattle.cs_ast.specs.TypedProgram.{TypedProgram}

@@ -1,4 +1,4 @@
--- Runs of code whose frames stand at spots: for the laws `blocks_begin_at_spots`, `steps_go_by_spots` and `jumps_are_silent`.
+-- Runs of code whose frames are at spots: for the laws `blocks_begin_at_spots`, `steps_go_by_spots` and `jumps_are_silent`.
 use Rattle.std.proofs.Common.{◌≡◌, ℕ, zero, suc, ◌+◌, List, [], ◌∷◌, Option, Some, None, arith, refl, sym, ap, ◌∙◌}
 use Rattle.std.specs.Prelude.{option_map, unwrap_or, slice_get}
 use Rattle.std.specs.Option.{option_and_then}

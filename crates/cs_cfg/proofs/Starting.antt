@@ -1,4 +1,4 @@
--- What is met first where a statement is executed follows from where it is placed. For the control points of placed code.
+-- What is reached first when a statement is executed follows from where it is placed. For the control points of placed code.
 use Rattle.std.proofs.Common.{ℕ, zero, suc, ◌+◌, List, [], ◌∷◌, Option, Some, None, refl, subst}
 use Rattle.cs_ast.specs.declared.place.Place.{Place}
 use Rattle.cs_ast.specs.TypedTree.{Typed, Initial, Value, Parts, Bytes, Statement, Block, Declare, Run, If, IfElse, While, Do, For, Switch, Goto, Label, Break}

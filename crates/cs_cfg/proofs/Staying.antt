@@ -1,5 +1,5 @@
--- Whatever the reference machine has to do first, it doesn't return from the run with it, unless it leaves a frame; and it touches no end of
--- a function, unless it ends one.
+-- Whatever the reference machine has to do first, this doesn't return from the run, unless it ends a frame; and it doesn't touch the end of
+-- a function, unless it is the end of one.
 use Rattle.std.specs.Prelude.{⊤, ◌⊎◌}
 use Rattle.std.proofs.Common.{◌≡◌, refl, true, inl, inr, ℕ, ◌+◌, nat_lt, Bool, List, length, Option, Some, None, slice_get}
 use Rattle.cs_types.specs.Shape.{Shape, integer}

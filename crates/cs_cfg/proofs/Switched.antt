@@ -1,4 +1,4 @@
--- A `switch` in the code goes the way of the case that the reference machine takes (C11 6.8.4.2). For the simulation.
+-- A `switch` in the code takes the case that the reference machine takes (C11 6.8.4.2). For the simulation.
 use Rattle.std.proofs.Common.{◌≡◌, ℕ, ◌+◌, ℤ, Bool, true, false, List, [], ◌∷◌, length, drop, Option, Some, None, unwrap_or}
 use Rattle.std.proofs.Common.{if◌then◌else◌, arith, refl, sym, ap, ◌∙◌, subst}
 use Rattle.std.specs.Ordering.{int_eq}

@@ -1,4 +1,4 @@
--- Each step of the code's run touches what is said of the point from which it comes: for the law `steps_touch_as_reported`.
+-- Each step of the code's run touches what is reported for its point: for the law `steps_touch_as_reported`.
 use Rattle.std.proofs.Common.{◌≡◌, ℕ, nat_lt, ℤ, Bool, true, false, List, [], ◌∷◌, ◌++◌, inl, inr, Option, Some, None, slice_get}
 use Rattle.std.proofs.Common.{if◌then◌else◌, refl, sym, ap, ◌∙◌, subst}
 use Rattle.std.specs.Prelude.{option_map}

@@ -1,4 +1,4 @@
--- A sample: a function with code to which nothing leads, and a graph by hand that is its lowering.
+-- A sample: a function with unreachable code, and a graph made by hand that is its lowering.
 use Rattle.std.proofs.Common.{◌≡◌, ℕ, zero, suc, true, [], ◌∷◌, Some, None, refl, subst, arith}
 use Rattle.cs_types.specs.Shape.{void}
 use Rattle.cs_ast.specs.TypedTree.{Statement, Block, Label, Return, Empty}

@@ -27,26 +27,26 @@ use Rattle.cs_meaning.specs.ProgramRuns.{ProgramRun, setting_of}
 use Rattle.cs_cfg.specs.Graph.{Operation, SwitchCase, BlockEnd, Jump, Branch, Switch, Return, Finish, Code, no_flow, flow_of, block_in}
 use Rattle.cs_cfg.specs.Working.{CodeState, takes, cut, code_frame, do_work}
 
--- the run goes on with a block of the function that runs
+-- the run continues with a block of the current function
 abbrev pub enters : Code → ℕ → CodeState → CodeState
 enters code block m = to_do (block_in code m.frame.function block) m
 
--- a case that a number leads to: its number among the cases, and its block
+-- a case: its number among the cases, and its block
 pub record Way : Type 0 where
   pub number : ℕ
   pub block : ℕ
 
--- the way that a number leads, the cases being counted from a number on; the number of cases shows where none has it
+-- the case of a number, with cases counted from a start; if there is none, its number is the count of cases
 abbrev pub way_of : List SwitchCase → ℕ → ℤ → ℕ → Way
 way_of [] otherwise number count = record { number = count; block = otherwise }
 way_of (one ∷ cases) otherwise number count =
     if int_eq one.value number then record { number = count; block = one.block } else way_of cases otherwise number (count + 1)
 
--- a `switch` goes its way, which shows
+-- a `switch` continues with a case, which shows
 abbrev pub goes_way : Code → Place → Way → CodeState → Act CodeState
 goes_way code at way m = Touches (Meets point.Switch at) (shows_then at (label.Case way.number) (Goes (enters code way.block m)))
 
--- what the end of a block does; the temporaries that it doesn't need are dropped
+-- the act of the end of a block; temporaries that it doesn't need are dropped
 abbrev pub do_end : Code → BlockEnd → CodeState → Act CodeState
 do_end code (Jump block) m = Goes (enters code block m)
 do_end code (Branch at temporary one other) m =
@@ -56,11 +56,11 @@ do_end code (Switch at temporary cases otherwise) m =
 do_end code (Return temporary) m = leave (operand_at (cut (temporary + 1) m) 0) m
 do_end code Finish m = leave (Scalar UnsetCell) m
 
--- an operation works on the temporaries from its number on
+-- the act of an operation on the temporaries from its number on
 abbrev pub do_operation : Code → TypedProgram → RunBudgets → Operation → CodeState → Act CodeState
 do_operation code program budgets operation m = do_work code program budgets operation.at operation.work (cut (operation.temporary + takes operation.work) m)
 
--- what the next operation of a block does, or its end
+-- the act of the next operation of a block, or of its end
 abbrev pub step_at : Code → TypedProgram → RunBudgets → List Operation → BlockEnd → CodeState → Act CodeState
 step_at code program budgets [] end m = do_end code end m
 step_at code program budgets (operation ∷ operations) end m =
@@ -86,7 +86,7 @@ code_started code program inputs entry routine = record {
 abbrev pub code_start : Code → TypedProgram → ℕ → ProgramRun → CodeState
 code_start code program entry run = code_started code program (input_at run.inputs) entry (routine_of program entry)
 
--- the run of the code ends so, with this log: its events, the paths that it has read, and its touches
+-- the run of the code ends with this outcome and this log: its events, the paths that it has read, and its touches
 abbrev pub CodeGives : Code → TypedProgram → ℕ → ProgramRun → RunBudgets → Outcome → Log → Type 0
 CodeGives code program entry run budgets outcome log =
     Ends (code_step code program budgets) (setting_of program run budgets) (code_start code program entry run) outcome log
@@ -96,12 +96,12 @@ abbrev pub CodeIsPending : Code → TypedProgram → ℕ → ProgramRun → RunB
 CodeIsPending code program entry run budgets event pending =
     IsPending (code_step code program budgets) (setting_of program run budgets) (code_start code program entry run) event pending
 
--- the run of the code passes these events first
+-- these are the first events that the run of the code passes
 abbrev pub CodePasses : Code → TypedProgram → ℕ → ProgramRun → RunBudgets → List Event → Type 0
 CodePasses code program entry run budgets events =
     Passes (code_step code program budgets) (setting_of program run budgets) (code_start code program entry run) events
 
--- the run of the code comes to this log, on its way or at its end
+-- the run of the code reaches this log, on its way or at its end
 abbrev pub CodeComesTo : Code → TypedProgram → ℕ → ProgramRun → RunBudgets → Log → Type 0
 CodeComesTo code program entry run budgets log =
     ComesTo (code_step code program budgets) (setting_of program run budgets) (code_start code program entry run) log

@@ -1,5 +1,5 @@
 -- The control points of a function, read off its statements: each with the ways out of it, and the next control point that the
--- machine meets on each way, whatever the values are. A recursion over the syntax; what is met after a part is an argument.
+-- machine reaches on each way, for all values. A recursion over the syntax, with what is reached after a part as an argument.
 use Rattle.std.specs.Prelude.{ℕ, zero, suc, ◌+◌, ℤ, Bool, true, false, List, [], ◌∷◌, ◌++◌, Option, Some, None}
 use Rattle.cs_ast.specs.declared.place.Place.{Place}
 use Rattle.cs_ast.specs.declared.typed.operator.Order.TheVariants.{PointerFirst, AmountFirst}
@@ -15,22 +15,22 @@ use Rattle.cs_meaning.specs.Machine.{body_of}
 use Rattle.cs_meaning.specs.Jumps.{Landing, landing}
 use Rattle.cs_meaning.specs.Statements.{has_value, default_item}
 
--- a control point that is met
+-- a control point that is reached
 pub record Met : Type 0 where
   pub kind : PointKind
   pub at : Place
 
--- a way out of a control point: the one way there is, that of a truth, or that of a case
+-- a way out of a control point: its only way, that of a truth value, or that of a case
 pub data Exit : Type 0 where
   Onward : Exit
   TruthOf : (holds : Bool) → Exit
   CaseOf : (number : ℕ) → Exit
 
--- what is met next: nothing where the frame is left without a control point, as after a `break` that stands in no loop
+-- what is reached next: nothing if the frame returns without reaching a control point, as after a `break` outside of loops
 abbrev pub Next : Type 0
 Next = Option Met
 
--- a way out of a control point, and the point that is met next
+-- a way out of a control point, and the point that is reached next
 pub record Way : Type 0 where
   pub exit : Exit
   pub next : Next
@@ -50,7 +50,7 @@ met kind at = Some (the_point kind at)
 abbrev pub way : Exit → Next → Way
 way exit next = record { exit = exit; next = next }
 
--- the head of a loop, or a label, or the beginning of a body
+-- the head of a loop, a label, or the beginning of a body
 abbrev pub passed : PointKind → Place → Next → ControlPoint
 passed kind at next = record { kind = kind; at = at; ways = way Onward next ∷ [] }
 
@@ -58,12 +58,12 @@ passed kind at next = record { kind = kind; at = at; ways = way Onward next ∷ 
 abbrev pub tested : Place → Next → Next → ControlPoint
 tested at one other = record { kind = point.Branch; at = at; ways = way (TruthOf true) one ∷ (way (TruthOf false) other ∷ []) }
 
--- a point after which nothing of the function is met
+-- a point after which no other point of the function is reached
 abbrev pub last_point : PointKind → Place → ControlPoint
 last_point kind at = record { kind = kind; at = at; ways = [] }
 
 abbrev mutual
-  -- what is met first where an expression is evaluated, and then this is met
+  -- what is reached first when an expression is evaluated and `following` comes after it
   pub first : Typed → Next → Next
   first (Of at ty form) following = first_of at form following
 
@@ -105,7 +105,7 @@ abbrev mutual
   first_in (Further e others) following = first e (first_in others following)
 
 abbrev mutual
-  -- the control points of an expression, in the order in which they stand in the file
+  -- the control points of an expression, in file order
   pub points : Typed → Next → List ControlPoint
   points (Of at ty form) following = points_of at form following
 
@@ -148,7 +148,7 @@ abbrev mutual
   points_in (Further e others) following = points e (first_in others following) ++ points_in others following
 
 abbrev mutual
-  -- the same of an initializer, whose parts are stored one after another
+  -- the same for an initializer, whose parts are stored one after another
   pub first_initial : Initial → Next → Next
   first_initial (Value e) following = first e following
   first_initial (Parts parts) following = first_parts parts following
@@ -168,7 +168,7 @@ abbrev mutual
   points_parts NoPart following = []
   points_parts (Part one others) following = points_initial one (first_parts others following) ++ points_parts others following
 
--- the same of what may be there
+-- the same for an optional expression
 abbrev pub first_some : Option Typed → Next → Next
 first_some None following = following
 first_some (Some e) following = first e following
@@ -177,13 +177,13 @@ abbrev pub points_some : Option Typed → Next → List ControlPoint
 points_some None following = []
 points_some (Some e) following = points e following
 
--- where jumps lead: what is met after the nearest loop or `switch`, what `continue` leads to, and each label that is there
+-- where jumps lead: what is reached after the nearest loop or `switch`, by `continue`, and at each label of the function
 pub record Targets : Type 0 where
   pub out : Next
   pub again : Next
   pub labels : ℕ → Next
 
--- the head of a `for`, whose body goes on with the last part; or the test that comes then, if there is one
+-- what is reached first before the body of a `for`: its test, if there is one
 abbrev pub for_test : Place → Option Typed → Next → Next
 for_test at None body = body
 for_test at (Some test) body = first test (met point.Branch at)
@@ -204,13 +204,13 @@ in_loop to out again = record to { out = out; again = again }
 abbrev pub in_switch : Targets → Next → Targets
 in_switch to out = record to { out = out }
 
--- a `goto` meets its label; one whose label isn't there leads on (C11 6.8.6.1)
+-- a `goto` reaches its label; if there is no such label, it continues with the next statement (C11 6.8.6.1)
 abbrev pub at_label : Next → Next → Next
 at_label None following = following
 at_label (Some label) following = Some label
 
 abbrev mutual
-  -- what is met first where a statement is executed, and then this is met (C11 6.8)
+  -- what is reached first when a statement is executed and `following` comes after it (C11 6.8)
   pub starts : Targets → Statement → Next → Next
   starts to (Block at statements) following = starts_in to statements following
   starts to (Declare at declaration None) following = following
@@ -232,18 +232,18 @@ abbrev mutual
   starts_in to Empty following = following
   starts_in to (Then one others) following = starts to one (starts_in to others following)
 
--- what is met first from the statement with a number on
+-- what is reached first by the statements from the one with a number on
 abbrev pub starts_from : Targets → ℕ → Statements → Next → Next
 starts_from to number Empty following = following
 starts_from to zero (Then one others) following = starts_in to (Then one others) following
 starts_from to (suc number) (Then one others) following = starts_from to number others following
 
--- the way of a case, if it has a value, before the ways of others
+-- the way of a case, if it has a value, before the ways of the other cases
 abbrev pub with_case : Option ℤ → ℕ → Next → List Way → List Way
 with_case None number next others = others
 with_case (Some value) number next others = way (CaseOf number) next ∷ others
 
--- the ways of a `switch`: those of its cases with a value, counted from a number on, and then that of any other number
+-- the ways of a `switch`: those of its cases with a value, counted from a number on, and then that of all other numbers
 abbrev pub case_ways : Targets → List Case → ℕ → Statements → Next → Next → List Way
 case_ways to [] number statements following otherwise = way (CaseOf number) otherwise ∷ []
 case_ways to (one ∷ cases) number statements following otherwise =
@@ -253,7 +253,7 @@ abbrev pub switched : Place → List Way → ControlPoint
 switched at ways = record { kind = point.Switch; at = at; ways = ways }
 
 abbrev mutual
-  -- the control points of a statement, in the order in which they stand in the file; the head of a loop comes before its test
+  -- the control points of a statement, in file order; the head of a loop comes before its test
   pub flows : Targets → Statement → Next → List ControlPoint
   flows to (Block at statements) following = flows_in to statements following
   flows to (Declare at declaration None) following = []
@@ -296,16 +296,16 @@ abbrev mutual
 abbrev pub end_of : Routine → Next
 end_of routine = met point.End routine.closes
 
--- what a `goto` meets, by where its label stands in the body
+-- what a `goto` reaches, by where its label is in the body
 abbrev pub landed : Option Landing → Next
 landed None = None
 landed (Some landing) = met point.Label landing.at
 
--- the targets of a function's body: outside of loops and `switch`, `break` and `continue` leave the frame
+-- the targets of a function's body: outside of loops and `switch`, `break` and `continue` end the frame
 abbrev pub body_targets : Routine → Targets
 body_targets routine = record { out = None; again = None; labels = λ label. landed (landing label (body_of routine) 0 []) }
 
--- the control points of a function, in the order in which they stand in the file
+-- the control points of a function, in file order
 abbrev pub control_points : Routine → List ControlPoint
 control_points routine =
     passed point.Enter routine.at (starts (body_targets routine) (body_of routine) (end_of routine))

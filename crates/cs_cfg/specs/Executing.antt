@@ -1,4 +1,4 @@
--- Where a point of the code executes a statement, and after it the graph goes on at a point. No temporary is in use there.
+-- When the code at a point executes a statement and then continues at a point. No temporary is in use at either.
 use Rattle.std.specs.Prelude.{◌≡◌, ℤ, ℕ, zero, suc, ◌+◌, ⊤, List, [], ◌∷◌, Option, Some, None, unwrap_or, option_map, slice_get}
 use Rattle.cs_types.specs.Shape.{Shape, void}
 use Rattle.cs_ast.specs.declared.place.Place.{Place}
@@ -21,24 +21,24 @@ use Rattle.cs_cfg.specs.Placing.{does, split, Joins, evaluates, used}
 abbrev pub type_in : Routine → ℕ → Shape
 type_in routine declaration = unwrap_or (option_map (λ (v : Variable). v.ty) (slice_get routine.variables declaration)) void
 
--- the frame is left with the temporary 0
+-- the frame returns temporary 0
 abbrev pub leaving : Point
 leaving = record { operations = []; end = graph.Return 0 }
 
--- the frame is left with a value that was never set
+-- the frame returns an unset value
 abbrev pub finishing : Point
 finishing = record { operations = []; end = graph.Finish }
 
--- what a loop's body, or any statement, is at a point: where `break` and `continue` lead, the point, and the one after it
+-- a statement in the code, as a relation of the points to which `break` and `continue` lead, its own point, and the one after it
 abbrev pub Part : Type 1
 Part = Point → Point → Point → Point → Type 0
 
 module _ (program : TypedProgram) (flow : Flow) where
-  -- jumps alone lead from the block with a number to a point
+  -- only jumps lead from the block with a number to a point
   abbrev pub falls_to : ℕ → Point → Type 0
   falls_to block q = Joins program flow (block_of flow block) q
 
-  -- code to which nothing leads is in the graph too: the point is a block, or jumps to one
+  -- unreachable code is in the graph too: the point is a block, or jumps to one
   abbrev pub IsKept : Point → Type 0
   IsKept q = (block : ℕ) × Joins program flow q (block_of flow block)
 
@@ -46,11 +46,11 @@ module _ (program : TypedProgram) (flow : Flow) where
   abbrev pub part_to : Part → Point → Point → Point → Point → Type 0
   part_to part out again p q = (v : Point) × part out again p v × Joins program flow v q
 
-  -- a test, and what stands at the beginning of its two ways
+  -- a test, and what is at the beginning of its two branches
   abbrev pub tests_at : Place → Typed → Point → (Point → Point → Type 0) → Type 0
   tests_at at test p Ways = (one other : ℕ) × used program flow test 0 p (split at 0 one other) × Ways (block_of flow one) (block_of flow other)
 
-  -- a `while` with this head, after which stands a point (C11 6.8.5.1)
+  -- a `while` with this head, and with a point after it (C11 6.8.5.1)
   abbrev pub while_loop : Place → Typed → ℕ → Part → Point → Point → Type 0
   while_loop at test counted_point body head q =
       (r : Point) × (head ≡ does at 0 (graph.Reach point.Head counted_point) r)
@@ -62,7 +62,7 @@ module _ (program : TypedProgram) (flow : Flow) where
       (r : Point) × (head ≡ does at 0 (graph.Reach point.Head counted_point) r) × part_to body q again r again
       × tests_at at test again (λ one other. Joins program flow one head × Joins program flow other q)
 
-  -- the last part of a `for`, which leads back to its head
+  -- the last part of a `for`, which continues at its head
   abbrev pub last_at : Option Typed → Point → Point → Type 0
   last_at None p head = Joins program flow p head
   last_at (Some e) p head = (at : Place) × (w : Point) × used program flow e 0 p (does at 0 graph.Drop w) × Joins program flow w head
@@ -115,19 +115,19 @@ module _ (program : TypedProgram) (flow : Flow) where
     cases_lead entries [] cases = cases ≡ []
     cases_lead entries (one ∷ others) cases = case_leads entries one.value one.item cases (cases_lead entries others)
 
-    -- a `goto` leads to its label; one whose label isn't there leads on (C11 6.8.6.1)
+    -- a `goto` leads to its label; if there is no such label, to the next statement (C11 6.8.6.1)
     abbrev pub goes_to : Option Landing → Point → Point → Point → Type 0
     goes_to None label p q = Joins program flow p q
     goes_to (Some landing) label p q = Joins program flow p label × IsKept q
 
-    -- a label with a counted point is the point to which its `goto`s lead, where it is the first of its name
+    -- a label with a counted point is the point to which its `goto`s lead, if it is the first of its name
     abbrev pub is_led_to : Option Landing → ℕ → Point → Point → Type 0
     is_led_to None counted_point label head = ⊤
     is_led_to (Some landing) counted_point label head = landing.counted_point ≡ counted_point → label ≡ head
 
     abbrev mutual
-      -- the point executes a statement, the first counted point of which has this number, and then the graph goes on at a point; `break` and
-      -- `continue` lead to two others. The first part of a `for` stands in the loop for `break`, and outside of it for `continue`
+      -- the point executes a statement, whose first counted point has this number, and then the graph continues at `q`; `break` and
+      -- `continue` lead to `out` and `again`. The first part of a `for` is in the loop for `break`, but outside of it for `continue`
       pub executes_at : Statement → ℕ → Point → Point → Point → Point → Type 0
       executes_at (Block at statements) counted_point out again p q = all_at statements counted_point out again p q
       executes_at (Declare at declaration initial) counted_point out again p q = declares_at at declaration initial p q
@@ -167,7 +167,7 @@ module _ (program : TypedProgram) (flow : Flow) where
           (r : Point) × part_to (λ o a x y. executes_at first counted_point o a x y) out again p r
           × all_at others (counted_point + counted_points first) out again r q
 
-      -- the same from the statement with a number on
+      -- the same for the statements from the one with a number on
       pub from_at : ℕ → Statements → ℕ → Point → Point → Point → Point → Type 0
       from_at number Empty counted_point out again p q = Joins program flow p q
       from_at zero (Then first others) counted_point out again p q =

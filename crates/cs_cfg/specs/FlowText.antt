@@ -19,7 +19,7 @@ kind_text Switch = codes "switch"
 kind_text Return = codes "return"
 kind_text End = codes "end"
 
--- the way out of a point, where there are several
+-- the text of a way out of a point; empty if it is the only one
 abbrev pub exit_text : Exit → List ℕ
 exit_text Onward = []
 exit_text (TruthOf true) = codes " true"
@@ -30,7 +30,7 @@ exit_text (CaseOf number) = codes " case " ++ decimal number
 abbrev pub point_text : List (List ℕ) → PointKind → Place → List ℕ
 point_text files kind at = kind_text kind ++ codes " " ++ place_text files at
 
--- `  KIND PLACE WAY -> KIND PLACE`: a way out of a point, if something is met on it
+-- `  KIND PLACE WAY -> KIND PLACE`: a way out of a point, if it reaches another point
 abbrev pub next_line : List (List ℕ) → ControlPoint → Exit → Next → List ℕ
 next_line files one exit None = []
 next_line files one exit (Some next) = codes "  " ++ point_text files one.kind one.at ++ exit_text exit ++ codes " -> " ++ point_text files next.kind next.at

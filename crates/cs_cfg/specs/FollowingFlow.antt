@@ -1,5 +1,5 @@
--- What the flow of a program says of runs: the control point that a frame touches after another, by the way on which it left that one.
--- It is said alike of every machine that runs a program in frames.
+-- What the flow of a program states about runs: which control point a frame touches after another, depending on the way it took.
+-- Stated for every machine that runs a program in frames.
 use Rattle.std.specs.Prelude.{◌≡◌, ℕ, true, false, List, [], ◌∷◌, ◌++◌, Contains, Some}
 use Rattle.cs_ast.specs.declared.place.Place.{Place}
 use Rattle.cs_ast.specs.TypedProgram.{TypedProgram, Routine}
@@ -14,15 +14,15 @@ use Rattle.cs_meaning.specs.Machine.{Running, routine_of}
 use Rattle.cs_cfg.specs.ControlPoints.{Met, the_point, Exit, Onward, TruthOf, CaseOf, Way, ControlPoint, control_points}
 use Rattle.cs_cfg.specs.GraphPoints.{goes_on}
 
--- what a log has shown since it was another one says the way out of a control point: the truth of a test, after whether its pointer is
--- null, or the case of a `switch`; of a point with one way nothing shows
+-- the events since an earlier log show the way out of a control point: the truth of a test, after whether its pointer is
+-- null, or the case of a `switch`; no event if the point has only one way
 abbrev pub ShowsExit : Place → Exit → Log → Log → Type 0
 ShowsExit at Onward log later = later.events ≡ log.events
 ShowsExit at (TruthOf holds) log later = (looked : List Event)
     × (later.events ≡ (log.events ++ looked) ++ record { place = at; label = label.Branch holds } ∷ [])
 ShowsExit at (CaseOf number) log later = later.events ≡ log.events ++ record { place = at; label = label.Case number } ∷ []
 
--- a way that the flow of a function names out of a control point, and by which a log has grown
+-- a way out of a control point, named by the flow of a function, that the growth of a log shows
 pub record LeftBy (routine : Routine) (one : Met) (log later : Log) : Type 0 where
   pub point : ControlPoint
   pub way : Way
@@ -32,25 +32,25 @@ pub record LeftBy (routine : Routine) (one : Met) (log later : Log) : Type 0 whe
   pub shown : ShowsExit one.at way.exit log later
 
 module _ {Rest : Type 0} (step : Running Rest → Act (Running Rest)) (setting : Setting) where
-  -- the next step of a run touches a control point, in the frame that runs
+  -- the next step of a run touches a control point, in the current frame
   abbrev pub TouchesPoint : Running Rest → Log → Met → Type 0
   TouchesPoint m log one = (log_of (perform setting log (step m))).touches ≡ log.touches ++ Meets one.kind one.at ∷ []
 
-  -- the run leads from a state and a log to others, and touches no control point in the frame with a number on the way
+  -- the run leads from a state and a log to others without touching a control point in the frame with a number
   pub data LeadsPast (frame : ℕ) : Running Rest → Log → Running Rest → Log → Type 0 where
     stays : {m : Running Rest} {log : Log} → LeadsPast frame m log m log
     goes : {m next last : Running Rest} {log later end : Log} → perform setting log (step m) ≡ Continues next later
         → (m.frame.number ≡ frame → (one : Met) → TouchesPoint m log one → ⊥) → LeadsPast frame next later last end
         → LeadsPast frame m log last end
 
-  -- what a frame touches next that goes on with a state and a log is what the way says on which it left a control point
+  -- the control point that a frame touches next, from a state and a log, is the one that the way names
   abbrev pub TouchesNext : ℕ → Running Rest → Log → Way → Type 0
   TouchesNext frame next later way = (last : Running Rest) (end : Log) (other : Met) → LeadsPast frame next later last end
       → last.frame.number ≡ frame → TouchesPoint last end other → way.next ≡ Some other
 
-  -- the run that begins in a state follows the flow of its program: wherever a frame touches a control point after which something of the
-  -- function is met, and the run goes on, it has left the point by a way that the flow of the function names, which shows; and the control
-  -- point that this frame touches next, whatever frames run before it does, is the one that the flow names for that way
+  -- the run that begins in a state follows the flow of its program: wherever a frame touches a control point other than a `return` or
+  -- the end of the body, and the run continues, it has left the point by a way that the flow of the function names, which shows; and the control
+  -- point that this frame touches next, whatever frames run in between, is the one that the flow names for that way
   pub record FollowsFlow (program : TypedProgram) (start : Running Rest) : Type 0 where
     pub follows : (m next : Running Rest) (log later : Log) (one : Met) → Leads step setting start empty m log → TouchesPoint m log one
         → goes_on one.kind ≡ true → perform setting log (step m) ≡ Continues next later →
@@ -61,7 +61,7 @@ module _ {Rest : Type 0} (step : Running Rest → Act (Running Rest)) (setting :
     pub begins : (m : Running Rest) (log : Log) (one : Met) → LeadsPast m.frame.number start empty m log → TouchesPoint m log one
         → the_point Enter (routine_of program m.frame.function).at ≡ one
 
-  -- after a control point that ends a function the frame touches none
+  -- after a control point that ends a function the frame touches no control point
   pub record EndsFlow (start : Running Rest) : Type 0 where
     pub ends : (m next : Running Rest) (log later : Log) (one : Met) → Leads step setting start empty m log → TouchesPoint m log one
         → goes_on one.kind ≡ false → perform setting log (step m) ≡ Continues next later → (last : Running Rest) (end : Log) (other : Met)

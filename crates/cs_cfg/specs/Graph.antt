@@ -1,4 +1,4 @@
--- The code of a program as plain data: for each function with a body its flow graph.
+-- The code of a program as plain data: a flow graph for each function with a body.
 use Rattle.std.specs.Prelude.{ℕ, ℤ, Bool, List, [], ◌∷◌, Option, None, unwrap_or, slice_get}
 use Rattle.cs_types.specs.declared.int_type.IntType.{IntType}
 use Rattle.cs_types.specs.Shape.{Shape}
@@ -46,12 +46,12 @@ pub data Work : Type 0 where
   Zero : (declaration : ℕ) → Work
   StoreLocal : (declaration offset : ℕ) (ty : Shape) (scalar : Bool) → Work
   Spell : (declaration offset : ℕ) (bytes : List ℕ) → Work
-  -- the head of a loop or a label is reached, which is the counted point with a number
+  -- the loop head or label that is the counted point with a number is reached
   Reach : (kind : PointKind) (counted_point : ℕ) → Work
   Meet : (kind : PointKind) → Work
   Close : (nothing : Bool) → Work
 
--- an operation at a place; its operands are the temporaries from the one with a number on
+-- an operation at a source position; its operands are the temporaries from the one with a number on
 pub record Operation : Type 0 where
   pub at : Place
   pub temporary : ℕ
@@ -70,12 +70,12 @@ pub data BlockEnd : Type 0 where
   Return : (temporary : ℕ) → BlockEnd
   Finish : BlockEnd
 
--- a point of the code: what is left of a block. A block is the point at its beginning
+-- a point of the code: the rest of a block. A block is the point at its beginning
 pub record Point : Type 0 where
   pub operations : List Operation
   pub end : BlockEnd
 
--- the flow graph of a function: its blocks, the one in which a call begins, and how many counted points there are
+-- the flow graph of a function: its blocks, the one where a call begins, and the number of counted points
 pub record Flow : Type 0 where
   pub blocks : List Point
   pub entry : ℕ
@@ -89,7 +89,7 @@ pub record Code : Type 0 where
 abbrev pub before : Operation → Point → Point
 before operation p = record p { operations = operation ∷ p.operations }
 
--- a block that isn't there leaves the frame
+-- the point of a block that doesn't exist: the frame returns
 abbrev pub no_point : Point
 no_point = record { operations = []; end = Finish }
 

@@ -69,7 +69,7 @@ block_end (ends.Switch at temporary cases otherwise) = Switch at temporary (map 
 block_end (ends.Return temporary) = Return temporary
 block_end ends.Finish = Finish
 
--- the operation by which a counted point is reached
+-- the operation that reaches a counted point
 abbrev pub reaching : CountedPoint → Operation
 reaching counted_point = record { at = counted_point.place; temporary = 0; work = Reach counted_point.kind counted_point.number }
 
@@ -87,7 +87,7 @@ flow graph = record { blocks = map block graph.blocks.items; entry = graph.entry
 abbrev pub code : c.Code → Code
 code graphs = record { flows = map (option_map flow) graphs.flows.items }
 
--- a block and a graph that are lent, if they are there
+-- a borrowed block, and a borrowed graph, if there is one
 abbrev pub lent_block : Option (Bor b.Block) → Option Point
 lent_block = option_map (λ one. block one.now)
 

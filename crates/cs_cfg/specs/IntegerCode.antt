@@ -1,4 +1,4 @@
--- Code of functions that work with integers alone: operations on integers, and accesses to whole integer locals.
+-- Integer code: operations on integers, and accesses to whole integer locals.
 use Rattle.std.specs.Prelude.{◌≡◌, ◌<◌, ℕ, true, Some, All, length}
 use Rattle.cs_types.specs.declared.int_type.IntType.{IntType}
 use Rattle.cs_types.specs.Shape.{integer}
@@ -8,17 +8,17 @@ use Rattle.cs_meaning.specs.Machine.{routine_of}
 use Rattle.cs_cfg.specs.Graph.{Work, Number, Local as LocalPlace, Nothing, Convert, Unary, Not, Binary, Compare, Judge, Load, Store, FetchNumber, Update}
 use Rattle.cs_cfg.specs.Graph.{Drop, Clear, StoreLocal, Reach, Meet, Close, Operation, Point, Flow, Code, flow_of}
 
--- how many locals a function has, its parameters among them
+-- how many locals, including parameters, a function has
 abbrev pub count_of_locals : TypedProgram → ℕ → ℕ
 count_of_locals program function = length (routine_of program function).variables
 
--- an integer variable is accessed
+-- an access to an integer variable
 pub record IsOfInteger (access : Access) : Type 0 where
   pub direct : access.direct ≡ true
   pub ty : IntType
   pub of : access.ty ≡ integer ty
 
--- the work of a function with so many locals that works with integers alone: the numbers of its locals are below that
+-- the work of integer code in a function with a number of locals: the numbers of the locals it accesses are less
 abbrev pub IsIntegerWork : ℕ → Work → Type 0
 IsIntegerWork count (Number n) = Unit {0}
 IsIntegerWork count (LocalPlace declaration) = declaration < count
@@ -44,11 +44,11 @@ IsIntegerWork count other = ⊥
 abbrev pub IsIntegerOperation : ℕ → Operation → Type 0
 IsIntegerOperation count operation = IsIntegerWork count operation.work
 
--- the same of all operations of a point
+-- the same for all operations of a point
 abbrev pub IsIntegerPoint : ℕ → Point → Type 0
 IsIntegerPoint count p = All (IsIntegerOperation count) p.operations
 
--- a function whose graph works with integers alone
+-- a function whose graph is integer code
 abbrev pub HasIntegerCode : Code → TypedProgram → ℕ → Type 0
 HasIntegerCode code program function =
     (flow : Flow) → flow_of code function ≡ Some flow → All (IsIntegerPoint (count_of_locals program function)) flow.blocks

@@ -17,7 +17,7 @@ use Rattle.cs_cfg.specs.CodeSteps.{CodeGives, CodeIsPending}
 use Rattle.cs_cfg.specs.ControlPoints.{control_points}
 use Rattle.cs_cfg.specs.GraphPoints.{HasPoints}
 
--- what the machine returns in a state in which it is done: the newest value, or one that was never set where nothing is to be done
+-- the value that the machine returns in a final state: the newest one, or an unset one if there is nothing to do
 abbrev pub returned_with : List Item → State → Operand
 returned_with [] m = Scalar UnsetCell
 returned_with (item ∷ items) m = operand_at m 0
@@ -25,7 +25,7 @@ returned_with (item ∷ items) m = operand_at m 0
 abbrev pub returned_value : State → Operand
 returned_value m = returned_with m.frame.todo m
 
--- what the run of the code returns in such a state
+-- the value that the run of the code returns in such a state
 abbrev pub end_value : BlockEnd → CodeState → Operand
 end_value (Return temporary) m = operand_at (cut (temporary + 1) m) 0
 end_value other m = Scalar UnsetCell
@@ -37,21 +37,21 @@ abbrev pub is_there : {T : Type 0} → Option T → Bool
 is_there None = false
 is_there (Some x) = true
 
--- the functions with a body are those that have a graph
+-- exactly the functions with a body have a graph
 abbrev pub HasGraphs : Code → TypedProgram → Type 0
 HasGraphs code program = (function : ℕ) → is_there (flow_of code function) ≡ is_there (routine_of program function).body
 
--- the graph of a function has just the control points of its statements
+-- the graph of a function has exactly the control points of its statements
 abbrev pub ReadsOff : Routine → Option Flow → Type 0
 ReadsOff routine None = ⊤
 ReadsOff routine (Some flow) = HasPoints flow (control_points routine)
 
 -- runs of the code end as those of the reference machine do, with the same events, paths read and touches; the same is pending at each event
 pub record RunsAlike (code : Code) (program : TypedProgram) : Type 0 where
-  -- the run of the code ends so where the machine's run does, with the same log
+  -- if the machine's run ends, the run of the code ends with the same outcome and log
   pub ends : (entry : ℕ) (body : Statement) (run : ProgramRun) (budgets : RunBudgets) (outcome : Outcome) (log : Log) →
       (routine_of program entry).body ≡ Some body → RunGives program entry run budgets outcome log → CodeGives code program entry run budgets outcome log
-  -- and only there
+  -- and conversely
   pub ends_only : (entry : ℕ) (body : Statement) (run : ProgramRun) (budgets : RunBudgets) (outcome : Outcome) (log : Log) →
       (routine_of program entry).body ≡ Some body → CodeGives code program entry run budgets outcome log → RunGives program entry run budgets outcome log
   -- the same is pending at each event, an access with the same object and offset
@@ -61,7 +61,7 @@ pub record RunsAlike (code : Code) (program : TypedProgram) : Type 0 where
   pub pends_only : (entry : ℕ) (body : Statement) (run : ProgramRun) (budgets : RunBudgets) (event : ℕ) (pending : Pending) →
       (routine_of program entry).body ≡ Some body → CodeIsPending code program entry run budgets event pending
       → RunIsPending program entry run budgets event pending
-  -- where the run is done, the value that it returns and its memory are those of the machine's run
+  -- if the run is done, the value that it returns and its memory are those of the machine's run
   pub returns : (entry : ℕ) (body : Statement) (run : ProgramRun) (budgets : RunBudgets) (what : Returned) (log : Log)
       → (routine_of program entry).body ≡ Some body →
       (one : RunGives program entry run budgets (Done what) log) (other : CodeGives code program entry run budgets (Done what) log) →
@@ -71,5 +71,5 @@ pub record RunsAlike (code : Code) (program : TypedProgram) : Type 0 where
 pub record IsLowered (code : Code) (program : TypedProgram) : Type 0 where
   pub graphs : HasGraphs code program
   pub runs : RunsAlike code program
-  -- the control points of each graph are just those of the function's statements, with what is met next on each way
+  -- the control points of each graph are exactly those of the function's statements, with what is reached next on each way
   pub flows : (function : ℕ) → ReadsOff (routine_of program function) (flow_of code function)

@@ -1,4 +1,4 @@
--- The control points of the pieces of an initializer, which are stored one after another, and what is met first there.
+-- The control points of the pieces of an initializer, which are stored one after another, and what is reached first there.
 use Rattle.std.specs.Prelude.{List, [], ◌∷◌, ◌++◌}
 use Rattle.cs_meaning.specs.Initials.{Piece, Evaluated, Spelled}
 use Rattle.cs_cfg.specs.ControlPoints.{Next, ControlPoint, first, points}

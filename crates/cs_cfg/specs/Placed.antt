@@ -13,11 +13,11 @@ use Rattle.cs_cfg.specs.Placing.{does, Joins}
 use Rattle.cs_cfg.specs.Executing.{leaving, finishing, executes_at}
 use Rattle.cs_cfg.specs.Lowered.{HasGraphs}
 
--- a graph executes the body of a function, between its beginning and its end; `break` and `continue` outside of loops leave the frame
+-- a graph executes the body of a function, between its beginning and its end; `break` and `continue` outside of loops end the frame
 pub record LowersBody (program : TypedProgram) (routine : Routine) (body : Statement) (flow : Flow) : Type 0 where
-  -- the points to which each label's `goto`s lead
+  -- the point to which each label's `goto`s lead
   pub labels : ℕ → Point
-  -- where the body begins, and what stands after it
+  -- where the body begins, and what comes after it
   pub inside : Point
   pub following : Point
   pub nothing : Bool

@@ -1,5 +1,5 @@
--- Where code lowers syntax: this point evaluates this expression, or executes this statement, and after it the graph goes on at that
--- point. A recursion over the syntax. The temporaries below a number are in use; statements stand where none are.
+-- The lowering of syntax in a graph: one point evaluates an expression, or executes a statement, and the graph then continues at another
+-- point. A recursion over the syntax. Temporaries below a number are in use; none are when a statement begins or ends.
 use Rattle.std.specs.Prelude.{◌≡◌, ℕ, suc, ◌+◌, ℤ, pos, []}
 use Rattle.cs_types.specs.Shape.{Shape, void}
 use Rattle.cs_ast.specs.declared.place.Place.{Place}
@@ -16,39 +16,39 @@ use Rattle.cs_cfg.specs.Graph as graph
 use Rattle.cs_cfg.specs.Graph.{Work, Operation, SwitchCase, Point, before, Flow, block_of}
 use Rattle.cs_cfg.specs.Working.{allocator_takes}
 
--- an operation, and then a point
+-- an operation, followed by a point
 abbrev pub does : Place → ℕ → Work → Point → Point
 does at temporary work following = before (record { at = at; temporary = temporary; work = work }) following
 
--- a test of a temporary, and nothing before it
+-- a test of a temporary, with no operations before it
 abbrev pub split : Place → ℕ → ℕ → ℕ → Point
 split at temporary one other = record { operations = []; end = graph.Branch at temporary one other }
 
--- the result of a call is looked at where it is used; no other value has to be
+-- a check that the result of a call, if the expression is one, was set; other values need no check
 abbrev pub used_then : Typed → ℕ → Point → Point
 used_then (Of at ty (Call function arguments)) number following = does at number graph.Use following
 used_then other number following = following
 
--- so many bytes has what a pointer of this type points to
+-- the size in bytes of what a pointer of this type points to
 abbrev pub step_of : TypedProgram → Shape → ℕ
 step_of program ty = size_of program (target_of ty)
 
 module _ (program : TypedProgram) (flow : Flow) where
-  -- jumps alone lie between two points
+  -- only jumps are between two points
   pub data Joins : Point → Point → Type 0 where
     there : {p : Point} → Joins p p
     jumps : {block : ℕ} {q : Point} → Joins (block_of flow block) q → Joins (record { operations = []; end = graph.Jump block }) q
 
-  -- a number that is known, and then jumps to a point
+  -- a known number, and then jumps to a point
   abbrev pub known : Place → ℤ → ℕ → Point → Point → Type 0
   known at n number p q = (r : Point) × (p ≡ does at number (graph.Number n) r) × Joins r q
 
   abbrev mutual
-    -- the point evaluates an expression into the temporary with a number, and then the other one stands
+    -- the point evaluates an expression into the temporary with a number, and then continues at the other one
     pub evaluates : Typed → ℕ → Point → Point → Type 0
     evaluates (Of at ty form) number p q = evaluates_form at ty form number p q
 
-    -- the same of an expression whose value is used
+    -- the same for an expression whose value is used
     pub used : Typed → ℕ → Point → Point → Type 0
     used (Of at ty form) number p q = evaluates_form at ty form number p (used_then (Of at ty form) number q)
 
@@ -100,7 +100,7 @@ module _ (program : TypedProgram) (flow : Flow) where
         (count_all arguments ≡ allocator_takes allocator) × used_all arguments number p (does at number (graph.Allocate allocator element) q)
     evaluates_form at ty (Free a) number p q = used a number p (does at number graph.Free q)
 
-    -- expressions in a row
+    -- several expressions, one after another
     pub used_all : TypedList → ℕ → Point → Point → Type 0
     used_all NoMore number p q = p ≡ q
     used_all (Further e others) number p q = (r : Point) × used e number p r × used_all others (suc number) r q
@@ -109,7 +109,7 @@ module _ (program : TypedProgram) (flow : Flow) where
     pub joined : Typed → ℕ → Point → Point → Type 0
     joined (Of at ty form) number p q = (r : Point) × evaluates_form at ty form number p (used_then (Of at ty form) number r) × Joins r q
 
-    -- the same of the right part of `&&` or `||`, which is made a truth
+    -- the same for the right operand of `&&` or `||`, which becomes a truth value
     pub judged : Place → Typed → ℕ → Point → Point → Type 0
     judged place (Of at ty form) number p q = (r : Point)
         × evaluates_form at ty form number p (used_then (Of at ty form) number (does place number graph.Judge r)) × Joins r q

@@ -1,4 +1,4 @@
--- What is so of the runs of a machine, whatever its steps are: which inputs, guesses and budgets they depend on.
+-- Laws of the runs of a machine, whatever its steps are: which inputs, guesses and budgets they depend on.
 use Rattle.std.specs.Prelude.{ℕ, suc, ℤ, List, length}
 use Rattle.cs_inputs.specs.declared.path.Path.{Path}
 use Rattle.cs_events.specs.declared.guess.Guess.{Guess}
@@ -22,14 +22,14 @@ pub record EndsAlike {State : Type 0} (step : State → Act State) (setting : Se
   pub logs : LogsAlike end other
 
 pub record KeepsRunLaws {State : Type 0} (step : State → Act State) : Type 0 where
-  -- with inputs that give the same cells wherever the run looks one up, the run is the same
+  -- with inputs that yield the same cells wherever the run looks one up, the run is the same
   pub cells : (setting : Setting) (inputs : Path → ℤ) (m : State) (log end : Log) (outcome : Outcome) → EndsFrom step setting m log outcome end
       → Agree setting.model setting.inputs inputs end.read → EndsFrom step (with_inputs inputs setting) m log outcome end
-  -- guesses at an event and later, and a budget of events that lets it pass, change nothing of what is pending there
+  -- guesses at an event and later, and a budget of events that allows it, don't affect what is pending there
   pub later_guesses : (setting : Setting) (guesses : List Guess) (budgets : RunBudgets) (event : ℕ) (start : State) (pending : Pending)
       → AlikeBefore setting guesses budgets event → IsPending step setting start event pending
       → IsPending step (with_guesses guesses budgets setting) start event pending
-  -- guesses with which each operation leads on with the same number change labels alone
+  -- guesses with which each operation yields the same number change only labels
   pub own_guesses : (setting : Setting) (guesses : List Guess) (m : State) (log : Log) (steps : List Step) (outcome : Outcome) (end : Log)
       → RunsTo step setting (first_of setting log (step m)) steps outcome end → LeadAlike setting guesses (suc (length log.events)) steps
       → EndsAlike step (with_guesses guesses setting.budgets setting) m log steps outcome end

@@ -1,5 +1,5 @@
--- Where in the code a run stands: a spot is a function, a block of it and a number in the block. The point at a spot is what is left of
--- the block, and a state whose frames stand at spots is one whose frames have come to the points there.
+-- Spots, the positions of a run in the code: a function, a block of it and a number in the block. The point at a spot is the rest of the
+-- block; a state whose frames are at spots represents one whose frames are at the points there.
 use Rattle.std.specs.Prelude.{ℕ, zero, suc, ◌+◌, List, [], ◌∷◌, length, map, Option, Some, None, option_map, unwrap_or, slice_get}
 use Rattle.std.specs.Option.{option_and_then}
 use Rattle.cs_meaning.specs.Machine.{CallFrame, Running}
@@ -7,13 +7,13 @@ use Rattle.cs_cfg.specs.declared.code.Spot.{Spot}
 use Rattle.cs_cfg.specs.Graph.{Operation, Point, Code, no_point, flow_of}
 use Rattle.cs_cfg.specs.Working.{CodeState}
 
--- what is left of a list from the element with a number on; after the last one that is nothing
+-- the rest of a list from the element with a number on; just after the last one it is empty
 abbrev pub rest_from : ℕ → List Operation → Option (List Operation)
 rest_from zero operations = Some operations
 rest_from (suc number) [] = None
 rest_from (suc number) (operation ∷ operations) = rest_from number operations
 
--- what is left of a block from the operation with a number on
+-- the rest of a block from the operation with a number on
 abbrev pub point_in : Point → ℕ → Option Point
 point_in block number = option_map (λ operations. record { operations = operations; end = block.end }) (rest_from number block.operations)
 
@@ -25,7 +25,7 @@ block_at code spot = option_and_then (λ flow. slice_get flow.blocks spot.block)
 abbrev pub point_at : Code → Spot → Option Point
 point_at code spot = option_and_then (λ block. point_in block spot.operation) (block_at code spot)
 
--- the same of every spot: one that isn't there leaves the frame
+-- the same for every number: where there is no operation, the frame returns
 abbrev pub point_in_or : Point → ℕ → Point
 point_in_or block number = unwrap_or (point_in block number) no_point
 
@@ -44,11 +44,11 @@ block_count code function = unwrap_or (option_map (λ flow. length flow.blocks) 
 abbrev pub after : Spot → Spot
 after spot = record spot { operation = spot.operation + 1 }
 
--- the states of a run of the code whose frames stand at spots, each in the function of its spot
+-- the states of a run of the code whose frames are at spots, each in the function of its spot
 abbrev pub SpotState : Type 0
 SpotState = Running Spot
 
--- a frame that has come to the point at its spot
+-- a frame at the point at its spot
 abbrev pub at_point : Code → CallFrame Spot → CallFrame Point
 at_point code frame = record {
   function = frame.todo.function;
@@ -58,7 +58,7 @@ at_point code frame = record {
   visits = frame.visits;
 }
 
--- a state whose frames have come to the points at their spots
+-- a state whose frames are at the points at their spots
 abbrev pub at_points : Code → SpotState → CodeState
 at_points code m = record {
   frame = at_point code m.frame;

@@ -1,4 +1,4 @@
--- Where a state of the code's run stands for a state of the reference machine: the point that it has come to does what the machine has
+-- When a state of the code's run represents a state of the reference machine: the point that it has reached does what the machine has
 -- still to do. A recursion over the list of things to do.
 use Rattle.std.specs.Prelude.{◌≡◌, ℕ, suc, ◌+◌, pos, Bool, List, Option, Some, None, [], ◌∷◌}
 use Rattle.cs_types.specs.Shape.{Shape}
@@ -22,20 +22,20 @@ use Rattle.cs_cfg.specs.Working.{takes, closed_with}
 use Rattle.cs_cfg.specs.Placing.{does, split, step_of, Joins, evaluates, used, joined, judged, known}
 use Rattle.cs_cfg.specs.Executing.{type_in, leaving, finishing, Part, part_to, while_loop, do_loop, for_loop, cases_lead, executes_at, from_at}
 
--- what stands at a point once so many temporaries are in use
+-- a condition on a point, with a number of temporaries in use
 abbrev pub Following : Type 1
 Following = ℕ → Point → Type 0
 
--- no point does this
+-- no point satisfies this
 abbrev pub nowhere : Following
 nowhere depth p = ⊥
 
--- an operation, which leaves so many temporaries in place of its operands
+-- an operation, which replaces its operands by a number of temporaries
 abbrev pub worked : Place → Work → ℕ → Following → Following
 worked at work leaves following depth p = (number : ℕ) × (q : Point) × (depth ≡ takes work + number) × (p ≡ does at number work q)
     × following (leaves + number) q
 
--- the operation that does what an expression does with its parts, if it does something with them
+-- the operation that computes an expression from its operands, if there is one
 abbrev pub work_of : TypedProgram → Shape → Form → Option Work
 work_of program ty (Number n) = Some (graph.Number n)
 work_of program ty Null = Some graph.Null
@@ -61,7 +61,7 @@ work_of program ty (Allocate allocator arguments element) = Some (graph.Allocate
 work_of program ty (Free a) = Some graph.Free
 work_of program ty other = None
 
--- that operation, whose operands are the newest temporaries
+-- that operation, applied to the newest temporaries
 abbrev pub acts_by : Place → Option Work → Following → Following
 acts_by at None following = nowhere
 acts_by at (Some work) following = worked at work 1 following
@@ -79,12 +79,12 @@ module _ (program : TypedProgram) (flow : Flow) where
   abbrev pub fetches_at : Typed → Following → Following
   fetches_at (Of at ty form) following = fetches_form at form following
 
-  -- a test of the newest temporary, and what stands at the beginning of its two ways, over so many temporaries
+  -- a test of the newest temporary, and what is at the beginning of its two branches, with a number of temporaries in use
   abbrev pub splits : Place → (ℕ → Point → Point → Type 0) → Following
   splits at Ways depth p = (number one other : ℕ) × (depth ≡ suc number) × (p ≡ split at number one other)
       × Ways number (block_of flow one) (block_of flow other)
 
-  -- the way that the first part of `&&`, `||` or `?:` says
+  -- the branch that the first operand of `&&`, `||` or `?:` selects
   abbrev pub chooses_form : Place → Form → Following → Following
   chooses_form at (And a b) following =
       splits at (λ number one other.
@@ -113,7 +113,7 @@ module _ (program : TypedProgram) (flow : Flow) where
         for_loop program flow at test last counted_point (part_of body (counted_point + 1 + counted_points_in first)) head again q
     loops_at other counted_point head again q = ⊥
 
-    -- the way that the test of a statement, or the value of a `switch`, says; `out` is where `break` leads in it, which is after a loop
+    -- the branch that the test of a statement, or the value of a `switch`, selects; `out` is where `break` leads in it: after a loop
     abbrev pub decides_at : Statement → ℕ → Point → Point → Following → Point → Type 0
     decides_at (If at test body) counted_point out again following p =
         splits at (λ number one other.
@@ -141,7 +141,7 @@ module _ (program : TypedProgram) (flow : Flow) where
         × following 0 out
     decides_at other counted_point out again following p = ⊥
 
-    -- the point does the first thing to do, with as many temporaries in use as the depth says, and what is after stands after it
+    -- the point does the first thing to do, with `depth` temporaries in use, and then continues with the rest
     abbrev pub item_at : Item → Point → Point → Following → Following
     item_at (Evaluate e) out again following depth p = (q : Point) × used program flow e depth p q × following (suc depth) q
     item_at (EvaluateUnused e) out again following depth p = (q : Point) × evaluates program flow e depth p q × following (suc depth) q
@@ -168,7 +168,7 @@ module _ (program : TypedProgram) (flow : Flow) where
     item_at (Give at) out again following depth p = (depth ≡ 1) × (p ≡ does at 1 (graph.Meet point.Return) leaving) × ((q : Point) × following 0 q)
     item_at Leave out again following depth p = (depth ≡ 1) × (p ≡ leaving) × ((q : Point) × following 0 q)
 
-    -- the point does all that is to be done; `break` and `continue` lead to the two others
+    -- the point does everything to do; `break` and `continue` lead to the two others
     abbrev pub stands_at : List Item → Point → Point → Following
     stands_at [] out again depth p = (p ≡ finishing) × Joins program flow out finishing × Joins program flow again finishing
     stands_at (Out ∷ items) out again depth p =

@@ -13,11 +13,11 @@ use Rattle.cs_cfg.specs.Graph.{Work, Load, Store, FetchNumber, Update, FetchPoin
 use Rattle.cs_cfg.specs.Graph.{Switch, Point, Code}
 use Rattle.cs_cfg.specs.Spots.{point_in, point_at}
 
--- a load of an object, which is a touch where the object is a scalar local. Its place is that of the expression that names the object
+-- the touch of a load, if its object is a scalar local; its position is that of the expression that designates the object
 abbrev pub touch_of_load : Access → Option Touch
 touch_of_load access = option_map (λ declaration. touch.Load declaration access.at) access.local
 
--- a store in an object, at the place of what stores
+-- the touch of a store, at the position of the storing operation
 abbrev pub touch_of_store : Place → Access → Option Touch
 touch_of_store at access = option_map (λ declaration. touch.Store declaration at) access.local
 
@@ -45,12 +45,12 @@ touch_of_end (Branch at temporary one other) = Some (touch.Point point.Branch at
 touch_of_end (Switch at temporary cases otherwise) = Some (touch.Point point.Switch at)
 touch_of_end other = None
 
--- what stands first at a point touches
+-- the touch of the first instruction at a point
 abbrev pub touch_first : List Operation → BlockEnd → Option Touch
 touch_first [] end = touch_of_end end
 touch_first (operation ∷ operations) end = touch_of operation
 
--- what the code touches at a point, at what has a number in a block, and at a spot
+-- what the code touches at a point, at a number in a block, and at a spot
 abbrev pub touch_from : Point → Option Touch
 touch_from p = touch_first p.operations p.end
 
@@ -60,14 +60,14 @@ touch_in block number = option_and_then touch_from (point_in block number)
 abbrev pub touch_at : Code → Spot → Option Touch
 touch_at code spot = option_and_then touch_from (point_at code spot)
 
--- the touch of a run that this is in a frame
+-- this touch, in a frame of a run
 abbrev pub in_frame : ℕ → Touch → run.Touch
 in_frame frame (touch.Point kind at) = run.Meets kind at
 in_frame frame (touch.Load declaration at) = run.Loads frame declaration at
 in_frame frame (touch.Store declaration at) = run.Stores frame declaration at
 in_frame frame (touch.Clear declaration at) = run.Clears frame declaration at
 
--- what a step touched beside what was touched before: just this where it goes on, and at most this where it ends the run
+-- what a step touched, after earlier touches: exactly this if the run continues, and at most this if it ends
 abbrev pub HasTouched : {S : Type 0} → List run.Touch → Option run.Touch → Performed S → Type 0
 HasTouched before reported (Continues next log) = log.touches ≡ before ++ option_to_list reported
 HasTouched before reported (Finishes outcome log) = (log.touches ≡ before) ⊎ (log.touches ≡ before ++ option_to_list reported)

@@ -1,4 +1,4 @@
--- What each operation of the code does: what is checked, what shows, and what is left in place of its operands.
+-- What each operation of the code does: its checks, its events, and the results that replace its operands.
 use Rattle.std.specs.Prelude.{ℕ, ◌-◌, pos, Bool, true, false, not, List, [], drop, length, Option, Some, None, replicate, if◌then◌else◌}
 use Rattle.cs_types.specs.Shape.{integer}
 use Rattle.cs_ast.specs.declared.place.Place.{Place}
@@ -27,7 +27,7 @@ use Rattle.cs_cfg.specs.Graph.{Work, Number, Null, Text, Local, Global, Nothing,
 use Rattle.cs_cfg.specs.Graph.{Judge, Store, FetchNumber, Update, FetchPointer, Move, Call, Allocate, Free, Use, Drop, Clear, Zero, StoreLocal, Spell, Reach}
 use Rattle.cs_cfg.specs.Graph.{Meet, Close, Point, Flow, Code, block_of, flow_of}
 
--- the states of a run of the code: what is left to be done in a frame is the point that it has come to
+-- the states of a run of the code: the work that remains in a frame is the point that it has reached
 abbrev pub CodeState : Type 0
 CodeState = Running Point
 
@@ -72,15 +72,15 @@ takes (Reach kind counted_point) = 0
 takes (Meet kind) = 0
 takes (Close nothing) = 0
 
--- the temporaries below a number, of which the newest stands first: temporary 0 is the last of the list
+-- the temporaries below a number, the newest first: temporary 0 is the last of the list
 abbrev pub below : ℕ → List Operand → List Operand
 below number temporaries = drop (length temporaries - number) temporaries
 
--- the state whose frame has the temporaries below a number alone
+-- the state whose frame has only the temporaries below a number
 abbrev pub cut : ℕ → CodeState → CodeState
 cut number m = with_stack (below number m.frame.stack) m
 
--- a frame in which the graph of a function begins
+-- a frame at the beginning of the graph of a function
 abbrev pub code_frame : ℕ → Flow → ℕ → CallFrame Point
 code_frame function flow number = record {
   function = function;
@@ -90,7 +90,7 @@ code_frame function flow number = record {
   visits = replicate flow.counted_points 0;
 }
 
--- a call of a function, which has a graph or is one without a body
+-- a call of a function, which has a graph or no body
 abbrev pub call_flow : TypedProgram → RunBudgets → Place → ℕ → Routine → Option Flow → List Operand → CodeState → Act CodeState
 call_flow program budgets at function routine None arguments m = call_outside program at function routine arguments m
 call_flow program budgets at function routine (Some flow) arguments m = enter_as program budgets (code_frame function flow) at function routine arguments m
@@ -99,12 +99,12 @@ call_flow program budgets at function routine (Some flow) arguments m = enter_as
 abbrev pub if_local : Bool → ℕ → Option ℕ
 if_local scalar declaration = if scalar then Some declaration else None
 
--- what the end of a function's body gives: nothing, or a value that was never set (C11 6.9.1, paragraph 12)
+-- the result at the end of a function's body: nothing, or an unset value (C11 6.9.1, paragraph 12)
 abbrev pub closed_with : Bool → Operand
 closed_with true = NoOperand
 closed_with false = Scalar UnsetCell
 
--- what an operation at a place does; its operands are the newest temporaries
+-- the act of an operation at a source position; its operands are the newest temporaries
 abbrev pub do_work : Code → TypedProgram → RunBudgets → Place → Work → CodeState → Act CodeState
 do_work code program budgets at (Number n) m = Goes (push_cell (NumberCell n) m)
 do_work code program budgets at Null m = Goes (push_cell NullCell m)

@@ -1,10 +1,10 @@
-//! Code, and the places in it.
+//! Code: flow graphs, their blocks, and positions in them.
 
 use crate::operation::Operation;
 use cs_ast::Place;
 use cs_events::PointKind;
 
-/// The code of a program: for each of its functions the flow graph, where it has a body.
+/// The code of a program: a flow graph for each of its functions that has a body.
 #[derive(Drop)]
 pub struct Code {
     pub flows: Vec<Option<Flow>>,
@@ -14,22 +14,22 @@ pub struct Code {
 #[derive(Drop)]
 pub struct Flow {
     pub blocks: Vec<Block>,
-    /// The block in which a call begins.
+    /// The block where a call begins.
     pub entry: u32,
-    /// How many loop heads and labels there are.
+    /// The number of loop heads and labels.
     pub counted_points: u32,
 }
 
-/// Operations one after another, and how they end.
+/// A basic block: operations, and how it ends.
 #[derive(Drop)]
 pub struct Block {
-    /// Whether the block is the head of a loop or a label.
+    /// The loop head or label that the block begins with, if any.
     pub counted_point: Option<CountedPoint>,
     pub operations: Vec<Operation>,
     pub end: BlockEnd,
 }
 
-/// A loop head or a label: its place, and its number among those of its function.
+/// A loop head or a label: its source position, and its number among those of its function.
 #[derive(Clone, Copy)]
 pub struct CountedPoint {
     pub kind: PointKind,
@@ -37,30 +37,30 @@ pub struct CountedPoint {
     pub number: u32,
 }
 
-/// How a block ends.
+/// How a block ends: its terminator.
 #[derive(Drop)]
 pub enum BlockEnd {
-    /// On to another block.
+    /// A jump to another block.
     Jump(u32),
-    /// A test at a place of the temporary with a number: to the first block where it holds, else to the second.
+    /// A test, at a source position, of the temporary with a number: to the first block if it is true, else to the second.
     Branch(Place, u32, u32, u32),
-    /// A `switch` at a place on the temporary with a number: to the block of the first case with its number, else to another block.
+    /// A `switch`, at a source position, on the temporary with a number: to the block of the first case with its value, else to another block.
     Switch(Place, u32, Vec<SwitchCase>, u32),
-    /// The frame is left with the temporary with a number.
+    /// The frame returns the temporary with a number.
     Return(u32),
-    /// The frame is left with a value that was never set.
+    /// The frame returns an unset value.
     Finish,
 }
 
-/// A case of a `switch` that has a value, and its block.
+/// A case of a `switch` with a value, and its block.
 #[derive(Clone, Copy)]
 pub struct SwitchCase {
     pub value: i128,
     pub block: u32,
 }
 
-/// A place in the code: what a block of a function does, counted from 0; the counted point comes first where the block has one, then the
-/// operations, then the end.
+/// A position in the code: a step of a block of a function, counted from 0. A counted point, if the block has one, is the first step, then
+/// the operations follow, then the end.
 #[derive(Clone, Copy)]
 pub struct Spot {
     pub function: u32,

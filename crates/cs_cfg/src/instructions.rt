@@ -1,4 +1,4 @@
-//! What stands at a spot of the code, and how many operands it takes.
+//! The instruction at a spot of the code, and how many operands it takes.
 ghost use Rattle.std.specs.Prelude.{◌≡◌, ◌+◌, map};
 ghost use Rattle.cs_cfg.specs.Graph.{Point, flow_of};
 ghost use Rattle.cs_cfg.specs.GraphView.{block, block_end, code, lent_block, lent_flow, operation, work};
@@ -18,12 +18,12 @@ pub enum Instruction<'a> {
     Operation(&'a Operation),
     /// The end of a block.
     End(&'a BlockEnd),
-    /// There is no such spot: the frame is left with a value that was never set.
+    /// There is no such spot: the frame returns an unset value.
     Nowhere,
 }
 
 impl Code {
-    /// What a run does at a spot.
+    /// Returns what a run does at a spot.
     pub fn instruction_at(&self, spot: Spot) -> Instruction<'_>
         ensures first { IsFirst result (point_of (code self.now) spot)
             (point_of (code self.now) (after spot)) }
@@ -34,7 +34,7 @@ impl Code {
         }
     }
 
-    // The block of a spot.
+    // Returns the block of a spot.
     fn block_at(&self, spot: Spot) -> Option<&Block>
         ensures found { block_at (code self.now) spot ≡ lent_block result }
     {
@@ -44,7 +44,7 @@ impl Code {
         }
     }
 
-    /// The graph of a function, if it has one.
+    /// Returns the graph of a function, if it has one.
     pub fn flow_at(&self, function: u32) -> Option<&Flow>
         ensures found { flow_of (code self.now) function ≡ lent_flow result }
     {
@@ -57,7 +57,7 @@ impl Code {
 }
 
 impl Block {
-    // What stands at a number in the block: its counted point, an operation or its end.
+    // Returns the instruction with a number in the block: its counted point, an operation or its end.
     fn instruction(&self, number: usize) -> Instruction<'_>
         ensures first { IsFirst result (point_in_or (block self.now) number)
             (point_in_or (block self.now) (number + 1)) }
@@ -94,7 +94,7 @@ fn instruction_of<'a>(
 }
 
 impl Instruction<'_> {
-    /// How many operands the instruction takes from the stack: those that it reads, and drops.
+    /// Returns how many operands the instruction takes from the stack: it reads and drops them.
     pub fn takes(&self) -> u32
         ensures operands { (here following : Point) → IsFirst self.now here following
             → result ≡ takes_from here }
@@ -109,7 +109,7 @@ impl Instruction<'_> {
 }
 
 impl Work {
-    /// How many operands an operation takes from the stack.
+    /// Returns how many operands an operation takes from the stack.
     pub fn takes(&self) -> u32
         ensures operands { result ≡ operands_of (work self.now) }
     {
@@ -132,7 +132,7 @@ impl Work {
 }
 
 impl BlockEnd {
-    /// How many operands the end of a block takes from the stack.
+    /// Returns how many operands the end of a block takes from the stack.
     pub fn takes(&self) -> u32
         ensures operands { result ≡ takes_at_end (block_end self.now) }
     {
@@ -143,7 +143,7 @@ impl BlockEnd {
     }
 }
 
-// How many arguments an allocation has (C11 7.22.3).
+// Returns the number of arguments of an allocation function (C11 7.22.3).
 fn allocator_takes(allocator: Allocator) -> u32
     ensures { result ≡ arguments_of allocator }
 {

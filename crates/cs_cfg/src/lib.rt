@@ -1,6 +1,6 @@
-//! The code of a program: for each function its flow graph, blocks of operations over numbered temporaries.
+//! The code of a program: a flow graph for each function, with blocks of operations on numbered temporaries.
 //!
-//! What a run of the code is, and when code is the lowering of a program, is stated in `specs/`.
+//! The specs define what a run of the code is, and when code is the lowering of a program.
 #![tactic(auto)]
 
 pub mod code;

@@ -1,4 +1,4 @@
-//! Where a frame of a run stands: how it goes on from one spot to another, with jumps followed at once.
+//! Successors of spots: how a frame gets from one spot to another, with jumps followed at once.
 ghost use Rattle.std.specs.Prelude.{◌≡◌, ◌+◌};
 ghost use Rattle.cs_cfg.specs.GraphView.{code};
 ghost use Rattle.cs_cfg.specs.Instructions.{jump_at, IsAfter, IsLed, IsNext, IsSettled};
@@ -8,8 +8,8 @@ use crate::code::{BlockEnd, Code, Spot};
 use crate::instructions::Instruction;
 
 impl Code {
-    /// Where a frame stands that has come to a spot, with jumps through empty blocks followed at once: at a spot where something else
-    /// stands than a jump. `None` where jumps lead on for ever.
+    /// Returns the spot that a frame at a spot gets to by jumps through empty blocks: the first one with an instruction other than a
+    /// jump. `None` if the jumps never end.
     pub fn settled(&self, spot: Spot) -> Option<Spot>
         ensures settled { IsSettled (code self.now) spot result }
     {
@@ -23,9 +23,9 @@ impl Code {
         None
     }
 
-    /// Where a frame stands after what stands at a spot, in any run that goes on there (after a call, once it has returned): at the next
-    /// operation of the block, or where a jump leads, with jumps through empty blocks followed at once. `None` at an end of a block
-    /// where that depends on the run or the frame is left, where jumps lead on for ever, and where the number of the next operation
+    /// Returns the spot of a frame after the instruction at a spot, in any run that continues there (for a call, once it has returned): the next
+    /// operation of the block, or the target of a jump, with jumps through empty blocks followed at once. `None` at an end of a block
+    /// where that depends on the run or the frame returns, if jumps never end, and if the number of the next operation
     /// has more than 32 bits.
     pub fn next_at(&self, spot: Spot) -> Option<Spot>
         ensures next { IsNext (code self.now) spot result }
@@ -34,7 +34,7 @@ impl Code {
         self.settled(next)
     }
 
-    // The spot to which what stands at a spot leads, in any run.
+    // Returns the spot to which the instruction at a spot leads, in any run.
     fn following(&self, spot: Spot) -> Option<Spot>
         ensures led { IsLed (code self.now) spot result }
     {
@@ -47,7 +47,7 @@ impl Code {
         }
     }
 
-    // Where the code jumps at once from a spot.
+    // Returns the target of the jump at a spot, if there is one.
     fn jump(&self, spot: Spot) -> Option<Spot>
         ensures jumps { result ≡ jump_at (code self.now) spot }
     {
@@ -58,7 +58,7 @@ impl Code {
         }
     }
 
-    // How many spots to look at: the first one, each block of the function once, and one after the last jump.
+    // Returns how many spots to look at: the first one, each block of the function once, and one after the last jump.
     fn rounds(&self, function: u32) -> usize
         ensures enough { result ≡ block_count (code self.now) function + 2 }
     {
@@ -70,7 +70,7 @@ impl Code {
 }
 
 impl Spot {
-    // The spot at which a block of the same function begins.
+    // Returns the spot at which a block of the same function begins.
     fn beginning(self, block: u32) -> Spot
         ensures spot { result ≡ begins self.function block }
     {
@@ -81,7 +81,7 @@ impl Spot {
         }
     }
 
-    // The next spot in the block, if it has a number.
+    // Returns the next spot in the block, if it has a number.
     fn next_in_block(self) -> Option<Spot>
         ensures next { IsAfter self result }
     {

@@ -1,4 +1,4 @@
-//! What the code touches at a spot: the control point that the run meets there, or the scalar local that it loads, stores or clears.
+//! What the code touches at a spot: the control point that the run reaches there, or the scalar local that it loads, stores or clears.
 ghost use Rattle.std.specs.Prelude.{◌≡◌, Some, map};
 ghost use Rattle.cs_cfg.specs.GraphView.{access, block, block_end, code, operation};
 ghost use Rattle.cs_cfg.specs.Touching.{touch_at, touch_in, touch_of, touch_of_end, touch_of_load, touch_of_store};
@@ -8,7 +8,7 @@ use crate::operation::{Access, Operation, Work};
 use cs_ast::Place;
 use cs_events::PointKind;
 
-/// A control point of some kind, or what happens to the scalar local with a declaration's number, each at its place.
+/// A control point of a kind, or an access to the scalar local with a declaration's number, each at its source position.
 #[derive(Clone, Copy)]
 pub enum Touch {
     Point(PointKind, Place),
@@ -18,7 +18,7 @@ pub enum Touch {
 }
 
 impl Code {
-    /// What the step of any run from a spot touches. Where nothing is touched, or there is no such spot, it is `None`.
+    /// Returns what the step of any run from a spot touches; `None` if it touches nothing, or there is no such spot.
     pub fn touch(&self, spot: Spot) -> Option<Touch>
         ensures reported { result ≡ touch_at (code self.now) spot }
     {
@@ -29,7 +29,7 @@ impl Code {
 }
 
 impl Block {
-    // What stands at a number in the block touches: its counted point, an operation or its end.
+    // Returns what the instruction with a number in the block touches: its counted point, an operation or its end.
     fn touch(&self, number: usize) -> Option<Touch>
         ensures reported { result ≡ touch_in (block self.now) number }
     {
@@ -57,7 +57,7 @@ fn touch_of_operations(operations: &[Operation], end: &BlockEnd, number: usize) 
 }
 
 impl Operation {
-    // What the operation touches.
+    // Returns what the operation touches.
     fn touch(&self) -> Option<Touch>
         ensures reported { result ≡ touch_of (operation self.now) }
     {
@@ -81,7 +81,7 @@ impl Operation {
 }
 
 impl Access {
-    // A load, at the place of the object, is a touch where the object is a scalar local.
+    // Returns the touch of a load, at the position of the object's expression, if the object is a scalar local.
     fn load(&self) -> Option<Touch>
         ensures reported { result ≡ touch_of_load (access self.now) }
     {
@@ -89,7 +89,7 @@ impl Access {
         Some(Touch::Load(declaration, self.place))
     }
 
-    // A store, at the place of what stores.
+    // Returns the touch of a store, at the position of the storing operation.
     fn store(&self, place: Place) -> Option<Touch>
         ensures reported { result ≡ touch_of_store place (access self.now) }
     {
@@ -99,7 +99,7 @@ impl Access {
 }
 
 impl BlockEnd {
-    // What the end of a block touches.
+    // Returns what the end of a block touches.
     fn touch(&self) -> Option<Touch>
         ensures reported { result ≡ touch_of_end (block_end self.now) }
     {

@@ -1,4 +1,4 @@
--- A run depends only on the cells that its inputs give where it looks: with others that give the same there it goes the same way.
+-- A run depends only on the cells of the inputs that it looks up: with other inputs that yield the same there, it is the same.
 use Rattle.std.proofs.Common.{◌≡◌, ℤ, Bool, true, false, List, [], ◌∷◌, ◌++◌, if◌then◌else◌, refl, sym, ap, ◌∙◌, subst}
 use Rattle.std.proofs.lemmas.List.{append-nil, append_assoc}
 use Rattle.cs_inputs.specs.declared.path.Path.{Path}

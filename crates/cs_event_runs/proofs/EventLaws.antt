@@ -1,4 +1,4 @@
--- Runs by their events are runs: they end alike, show the events of the log, and come to what is pending; and there is one of them.
+-- Runs by their events are runs: they end alike, show the events of the log, and reach what is pending; and there is exactly one.
 use Rattle.std.proofs.Common.{◌≡◌, List, [], ◌∷◌, ◌++◌, map, refl, sym, ap, ◌∙◌, subst}
 use Rattle.std.proofs.lemmas.List.{append-nil, append_assoc}
 use Rattle.cs_events.specs.declared.event.Event.{Event}

@@ -1,4 +1,4 @@
--- What stands first in an act is what performing it meets first: for runs by their events.
+-- What comes first in an act is what performing it reaches first: for runs by their events.
 use Rattle.std.proofs.Common.{◌≡◌, ℕ, suc, ◌==◌, Bool, true, false, List, [], ◌∷◌, ◌++◌, Option, Some, None, length, if◌then◌else◌}
 use Rattle.std.proofs.Common.{refl, sym, ap, ◌∙◌, arith}
 use Rattle.std.proofs.lemmas.List.{length-append}

@@ -1,4 +1,4 @@
--- Guesses at an event and later, and the size of the budget of events, change nothing of what is pending there.
+-- Guesses at an event and later, and the budget of events, don't affect what is pending there.
 use Rattle.std.proofs.Common.{◌≡◌, ℕ, suc, ◌+◌, ◌<◌, ◌≤◌, ℤ, Bool, true, false, List, [], ◌∷◌, ◌++◌, Option, length}
 use Rattle.std.proofs.Common.{if◌then◌else◌, refl, sym, ap, ◌∙◌, subst, arith}
 use Rattle.std.proofs.lemmas.Bool.Decides.{nat_tests}

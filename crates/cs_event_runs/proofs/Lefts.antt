@@ -1,4 +1,4 @@
--- What is left of an act after some answers: answers come one after another, and what a run shows first is answered by its number.
+-- The rest of an act after some answers: answers are given one after another, and the number of a run's first event is its answer.
 use Rattle.std.proofs.Common.{◌≡◌, ℤ, Bool, true, false, List, [], ◌∷◌, ◌++◌, if◌then◌else◌, refl, ap, ◌∙◌}
 use Rattle.cs_inputs.specs.declared.path.Path.{Path}
 use Rattle.cs_events.specs.declared.input.InputKind.{InputKind}

@@ -1,4 +1,4 @@
--- Listing results as guesses changes labels alone: where each operation leads on with the same number, the run is the same but for
+-- Listing results as guesses changes only labels: if each operation yields the same number, the run is the same except for
 -- what its events show.
 use Rattle.std.proofs.Common.{◌≡◌, suc, nat_lt, ℤ, Bool, true, false, List, [], ◌∷◌, ◌++◌, length, if◌then◌else◌, refl, sym, ap}
 use Rattle.std.proofs.Common.{◌∙◌, subst, arith}

@@ -1,4 +1,4 @@
--- What a run shows as its n-th step is what is pending at its n-th event, and the other way round.
+-- What a run shows as its n-th step is what is pending at its n-th event, and conversely.
 use Rattle.std.proofs.Common.{◌≡◌, ℕ, suc, ◌+◌, ◌<◌, ◌==◌, Bool, true, false, List, [], ◌∷◌, ◌++◌, Some, length}
 use Rattle.std.proofs.Common.{if◌then◌else◌, refl, sym, ap, ◌∙◌, subst, arith}
 use Rattle.std.proofs.lemmas.Bool.Decides.{nat_tests}

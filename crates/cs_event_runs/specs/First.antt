@@ -1,4 +1,4 @@
--- What stands first in an act that is performed with a log.
+-- What comes first in an act that is performed with a log.
 use Rattle.std.specs.Prelude.{ℤ, if◌then◌else◌}
 use Rattle.cs_ast.specs.declared.place.Place.{Place}
 use Rattle.cs_inputs.specs.declared.path.Path.{Path}
@@ -16,13 +16,13 @@ use Rattle.cs_events.specs.Runs.{number_of}
 use Rattle.cs_events.specs.Runs.{allocation_event, access_event, read_cell}
 use Rattle.cs_events.specs.PendingEvents.{Pending, Operates, Tries, Accesses}
 
--- one event of a run: what was pending there, the event that it shows, and the number that leads on
+-- one event of a run: what was pending there, the event that it shows, and the number that the run continues with
 pub record Step : Type 0 where
   pub pending : Pending
   pub event : Event
   pub answer : ℤ
 
--- what stands first: the machine goes on in a state, or shows an event and has so much left, or ends
+-- what comes first: the machine continues in a state, or shows an event and has the rest of the act left, or ends
 pub data First (State : Type 0) : Type 0 where
   Silent : (next : State) (log : Log) → First State
   Shown : (shown : Step) (left : Act State) (log : Log) → First State
@@ -44,7 +44,7 @@ abbrev pub accessed : Place → Object → ℤ → Step
 accessed at object offset = record { pending = Accesses at object offset; event = access_event at offset; answer = offset }
 
 module _ {State : Type 0} where
-  -- an event that is shown where the budget of events lets it pass; else the run ends
+  -- an event that shows if the budget of events allows it; else the run ends
   abbrev pub shown_if_allowed : Setting → Log → Place → Step → Log → Act State → First State
   shown_if_allowed setting log at shown before left =
       if allows_event setting log then Shown shown left (with_event before shown.pending shown.event) else Ended (Over Events at) log
@@ -60,7 +60,7 @@ module _ {State : Type 0} where
       shown_if_allowed setting log at (tried setting at path) (with_read log path Allocation) (onward (is_true (setting.inputs path)))
   first_of setting log (Reaches at object offset act) = shown_if_allowed setting log at (accessed at object offset) log act
 
-  -- what performing makes of it
+  -- the result of performing the act
   abbrev pub performed : Setting → First State → Performed State
   performed setting (Silent next log) = Continues next log
   performed setting (Shown shown left log) = perform setting log left

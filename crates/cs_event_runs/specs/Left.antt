@@ -1,4 +1,4 @@
--- What is left of an act once its first events have been answered: an exploration stands between any two events of a step.
+-- The rest of an act once its first events have been answered: an exploration stops between any two events of a step.
 use Rattle.std.specs.Prelude.{ℤ, List, [], ◌∷◌}
 use Rattle.cs_inputs.specs.declared.path.Path.{Path}
 use Rattle.cs_events.specs.declared.input.InputKind.{InputKind}
@@ -7,8 +7,8 @@ use Rattle.cs_events.specs.Objects.{Cell}
 use Rattle.cs_events.specs.Acts.{Act, Goes, Stops, Reads, Asks, Allocates, Reaches, Touches}
 
 module _ {State : Type 0} where
-  -- the rest of an act after some answers. An answer is the number that an operation leads on with; of an allocation whether it isn't 0,
-  -- of an offset nothing is read. The cells that inputs give are known: reads and touches are gone through, so that the rest begins with
+  -- the rest of an act after some answers. An answer is the number that an operation continues with; for an allocation, only whether it is 0
+  -- counts, and for an offset it isn't used. The cells of inputs are known: lookups and touches are skipped, so that the rest begins with
   -- an event, a state or an end
   unfoldable pub left_of : (Path → InputKind → Cell) → List ℤ → Act State → Act State
   left_of cells answers (Goes next) = Goes next

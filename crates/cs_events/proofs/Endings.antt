@@ -1,5 +1,5 @@
--- Every run ends of a machine whose silent steps leave fewer turns, or as many and less weight: by the events left, then the turns,
--- then the weight.
+-- Every run ends of a machine whose silent steps lessen the turns, or the weight without more turns: by induction on the events left, then
+-- the turns, then the weight.
 use Rattle.std.proofs.Common.{◌≡◌, ℕ, zero, suc, ◌+◌, ◌<◌, ◌≤◌, ◌⊎◌, Bool, true, false, [], ◌∷◌, ◌++◌, length}
 use Rattle.std.proofs.Common.{if◌then◌else◌, inl, inr, refl, ap, ◌∙◌, arith}
 use Rattle.std.proofs.lemmas.Bool.Decides.{nat_tests}

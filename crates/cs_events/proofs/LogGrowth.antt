@@ -1,4 +1,4 @@
--- Logs only grow: what an act shows, reads and touches is added after what was there.
+-- Logs only grow: an act adds its events, lookups and touches at the end.
 use Rattle.std.proofs.Common.{◌≡◌, Bool, true, false, List, [], ◌∷◌, ◌++◌, if◌then◌else◌, refl, sym, ap, ◌∙◌, subst}
 use Rattle.std.proofs.lemmas.List.{append-nil, append_assoc}
 use Rattle.cs_events.specs.declared.event.Event.{Event}

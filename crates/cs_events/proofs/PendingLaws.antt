@@ -1,4 +1,4 @@
--- What is pending at an event is one thing: a run comes to an event once.
+-- At most one thing is pending at an event: a run reaches an event once.
 use Rattle.std.proofs.Common.{◌≡◌, ℕ, suc, ◌+◌, ◌<◌, ◌≤◌, nat_le, ◌≢◌, Bool, true, false, [], ◌∷◌, ◌++◌, Option, Some}
 use Rattle.std.proofs.Common.{None, unwrap_or, length, if◌then◌else◌, refl, sym, ap, ◌∙◌, arith}
 use Rattle.std.proofs.lemmas.Bool.Decides.{nat_tests}

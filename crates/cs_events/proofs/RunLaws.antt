@@ -1,4 +1,4 @@
--- Runs are determined, and go on from where they have come to: for every machine whose steps are acts.
+-- Runs are deterministic, and continue from where they are: for every machine whose steps are acts.
 use Rattle.std.proofs.Common.{◌≡◌, ℕ, zero, suc, refl, sym, ◌∙◌, subst}
 use Rattle.cs_events.specs.declared.outcome.Outcome.{Outcome}
 use Rattle.cs_ast.specs.declared.place.Place.{Place}

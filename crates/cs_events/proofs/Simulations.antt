@@ -1,5 +1,5 @@
--- Where related states answer one another, runs from them end alike and have the same pending: in the direction of the answer, and
--- back where every run ends.
+-- If related states answer one another, runs from them end alike and have the same pending: in the direction of the answer, and
+-- conversely if every run ends.
 use Rattle.std.proofs.Common.{◌≡◌, ℕ, Bool, true, false, Some, None, if◌then◌else◌, refl, sym, ap, ◌∙◌, subst}
 use Rattle.cs_events.specs.declared.outcome.Outcome.{Outcome}
 use Rattle.cs_events.specs.Operations.{is_true}

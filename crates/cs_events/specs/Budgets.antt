@@ -9,7 +9,7 @@ budget_name Visits = codes "visits"
 budget_name Depth = codes "depth"
 budget_name Events = codes "events"
 
--- the number of a budget, by which budgets are ordered
+-- the number of a budget, used to order budgets
 abbrev pub budget_number : Budget → ℕ
 budget_number Visits = 1
 budget_number Depth = 2

@@ -1,12 +1,12 @@
--- What pointers point to, and what a scalar of memory holds: what every machine that runs a program shares.
+-- Objects that pointers point to, and the contents of scalars in memory: shared by all machines that run programs.
 use Rattle.std.specs.Prelude.{ℕ, ℤ, Bool, true, false, ◌&&◌, ◌==◌}
 use Rattle.std.specs.declared.cmp.Ordering.{Ordering}
 use Rattle.std.specs.declared.cmp.Ordering.TheVariants.{Less, Equal, Greater}
 use Rattle.cs_inputs.specs.declared.path.Path.{Path}
 use Rattle.cs_inputs.specs.PathOrder.{path_order}
 
--- an object: what a run finds after an unknown pointer, by the pointer's path; a file-scope object; a string literal; a
--- declaration in the frame with a number; the block of an allocation, by the allocation's number
+-- an object: the start block that an unknown pointer points to, by the pointer's path; a file-scope object; a string literal; a local,
+-- by frame number and declaration; the block of an allocation, by the allocation's number
 pub data Object : Type 0 where
   StartBlock : (path : Path) → Object
   GlobalObject : (global : ℕ) → Object
@@ -14,7 +14,7 @@ pub data Object : Type 0 where
   LocalObject : (frame declaration : ℕ) → Object
   HeapBlock : (allocation : ℕ) → Object
 
--- what a scalar holds: a number, a null pointer, a pointer to an object at a byte offset, or nothing that was ever set
+-- the contents of a scalar: a number, a null pointer, a pointer to an object at a byte offset, or unset
 pub data Cell : Type 0 where
   NumberCell : (number : ℤ) → Cell
   NullCell : Cell
@@ -27,7 +27,7 @@ is_equal Less = false
 is_equal Equal = true
 is_equal Greater = false
 
--- whether two objects are one
+-- whether two objects are the same
 abbrev pub same_object : Object → Object → Bool
 same_object (StartBlock p) (StartBlock q) = is_equal (path_order p q)
 same_object (GlobalObject m) (GlobalObject n) = m == n

@@ -1,4 +1,4 @@
--- The event that a run is about to pass.
+-- The next event of a run.
 use Rattle.std.specs.Prelude.{◌≡◌, ℕ, suc, ◌==◌, Bool, Option, Some, None, length, if◌then◌else◌}
 use Rattle.cs_events.specs.Operations.{is_true}
 use Rattle.cs_events.specs.PendingEvents.{Pending, Operates, Tries, Accesses}
@@ -11,7 +11,7 @@ abbrev pub is_next : Log → ℕ → Bool
 is_next log event = suc (length log.events) == event
 
 module _ {State : Type 0} where
-  -- what is pending at the event with this number, if an act comes to it
+  -- what is pending at the event with this number, if an act reaches it
   unfoldable pub pending_in : Setting → Log → ℕ → Act State → Option Pending
   pending_in setting log event (Goes next) = None
   pending_in setting log event (Stops outcome) = None
@@ -32,7 +32,7 @@ module _ {State : Type 0} where
       else None
   pending_in setting log event (Touches touch act) = pending_in setting (with_touch log touch) event act
 
-  -- the run from a state is about to pass the event with this number, and this is pending there
+  -- the run from a state reaches the event with this number, and this is pending there
   pub record IsPending (step : State → Act State) (setting : Setting) (start : State) (event : ℕ) (pending : Pending) : Type 0 where
     pub last : State
     pub before : Log

@@ -22,40 +22,40 @@ use Rattle.cs_events.specs.InputCells.{input_cell, lies_in}
 use Rattle.cs_events.specs.PendingEvents.{Pending, Operates, Tries, Accesses}
 use Rattle.cs_events.specs.Acts.{Act, Goes, Stops, Reads, Asks, Allocates, Reaches, Touches}
 
--- what a run goes by
+-- what determines a run, beside the program
 pub record Setting : Type 0 where
   pub model : DataModel
   pub inputs : Path → ℤ
   pub guesses : List Guess
   pub budgets : RunBudgets
 
--- what a run has shown, read and touched so far, each in order; what was pending at each event stands beside it
+-- the events, lookups and touches of a run so far, in order; `pending` has what was pending at each event
 pub record Log : Type 0 where
   pub events : List Event
   pub pending : List Pending
   pub read : List Lookup
   pub touches : List Touch
 
--- nothing
+-- the empty log
 abbrev pub empty : Log
 empty = record { events = []; pending = []; read = []; touches = [] }
 
--- the number of the first guess that is listed for an event
+-- the number of the first guess listed for an event
 abbrev pub guess_at : List Guess → ℕ → Option ℤ
 guess_at [] event = None
 guess_at (guess ∷ guesses) event = if guess.event == event then Some guess.number else guess_at guesses event
 
--- a guess that is used: one where the operation has a range, and that lies in it
+-- the guess, if the operation has a range and the guess is in it
 abbrev pub used : Option (ℤ × ℤ) → Option ℤ → Option ℤ
 used None guess = None
 used (Some range) None = None
 used (Some range) (Some number) = if lies_in range number then Some number else None
 
--- the guess that a run uses at its next event
+-- the guess that a run uses at its next event, if any
 abbrev pub used_guess : Setting → Log → Operation → Option ℤ
 used_guess setting log operation = used (guess_range setting.model operation) (guess_at setting.guesses (suc (length log.events)))
 
--- the log with one more of each
+-- the log with one more entry of each sort
 abbrev pub with_event : Log → Pending → Event → Log
 with_event log pending event = record log { events = log.events ++ event ∷ []; pending = log.pending ++ pending ∷ [] }
 
@@ -65,23 +65,23 @@ with_read log path kind = record log { read = log.read ++ record { path = path; 
 abbrev pub with_touch : Log → Touch → Log
 with_touch log touch = record log { touches = log.touches ++ touch ∷ [] }
 
--- whether the budget of events lets one more pass
+-- whether the budget of events allows one more
 abbrev pub allows_event : Setting → Log → Bool
 allows_event setting log = nat_lt (length log.events) setting.budgets.events
 
--- the event that an operation is
+-- the event of an operation
 abbrev pub operation_event : Setting → Log → Place → Operation → Event
 operation_event setting log at operation = record { place = at; label = shows setting.model operation (used_guess setting log operation) }
 
--- the number that leads on from an operation
+-- the number that a run continues with after an operation
 abbrev pub number_of : Setting → Log → Operation → ℤ
 number_of setting log operation = result_with setting.model operation (used_guess setting log operation)
 
--- the event that an allocation is
+-- the event of an allocation
 abbrev pub allocation_event : Setting → Place → Path → Event
 allocation_event setting at path = record { place = at; label = Alloc (is_true (setting.inputs path)) }
 
--- the event that an access is
+-- the event of an access
 abbrev pub access_event : Place → ℤ → Event
 access_event at offset = record { place = at; label = Offset (offset_shown offset) }
 
@@ -95,17 +95,17 @@ with_allocation setting log at path = with_event (with_read log path Allocation)
 abbrev pub with_access : Log → Place → Object → ℤ → Log
 with_access log at object offset = with_event log (Accesses at object offset) (access_event at offset)
 
--- the cell that an input gives
+-- the cell that an input yields
 abbrev pub read_cell : Setting → Path → InputKind → Cell
 read_cell setting path kind = input_cell setting.model path kind (setting.inputs path)
 
--- what is left of an act once it was performed: a state to go on in, or the end; with the log
+-- the result of performing an act: a state to continue in, or the end; with the log
 pub data Performed (State : Type 0) : Type 0 where
   Continues : (next : State) (log : Log) → Performed State
   Finishes : (outcome : Outcome) (log : Log) → Performed State
 
 module _ {State : Type 0} where
-  -- an act performed: each event counts against the budget of events, and a guess that is used takes the result's place
+  -- performs an act: each event counts against the budget of events, and a used guess replaces the operation's result
   unfoldable pub perform : Setting → Log → Act State → Performed State
   perform setting log (Goes next) = Continues next log
   perform setting log (Stops outcome) = Finishes outcome log
@@ -124,27 +124,27 @@ module _ {State : Type 0} where
       else Finishes (Over Events at) log
   perform setting log (Touches touch act) = perform setting (with_touch log touch) act
 
-  -- the run of a machine with this step leads from a state and a log to others
+  -- the run of a machine with this step function leads from a state and a log to others
   pub data Leads (step : State → Act State) (setting : Setting) : State → Log → State → Log → Type 0 where
     stays : {m last : State} {log end : Log} → m ≡ last → log ≡ end → Leads step setting m log last end
     goes : {m next last : State} {log later end : Log} → perform setting log (step m) ≡ Continues next later → Leads step setting next later last end
         → Leads step setting m log last end
 
-  -- the run from a state and a log ends so, with this log; `last` is the state before its last act
+  -- the run from a state and a log ends with this outcome and log; `last` is the state before its last act
   pub record EndsFrom (step : State → Act State) (setting : Setting) (m : State) (log : Log) (outcome : Outcome) (end : Log) : Type 0 where
     pub last : State
     pub before : Log
     pub leads : Leads step setting m log last before
     pub finishes : perform setting before (step last) ≡ Finishes outcome end
 
-  -- the run from a state ends so, with this log
+  -- the run from a state ends with this outcome and log
   abbrev pub Ends : (State → Act State) → Setting → State → Outcome → Log → Type 0
   Ends step setting start outcome log = EndsFrom step setting start empty outcome log
 
-  -- the run from a state comes to this log, on its way or at its end
+  -- the run from a state reaches this log, on its way or at its end
   abbrev pub ComesTo : (State → Act State) → Setting → State → Log → Type 0
   ComesTo step setting start log = ((last : State) × Leads step setting start empty last log) ⊎ ((outcome : Outcome) × Ends step setting start outcome log)
 
-  -- the run from a state passes these events first
+  -- these are the first events that the run from a state passes
   abbrev pub Passes : (State → Act State) → Setting → State → List Event → Type 0
   Passes step setting start events = (log : Log) × (more : List Event) × ComesTo step setting start log × (log.events ≡ events ++ more)

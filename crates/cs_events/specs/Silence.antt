@@ -1,4 +1,4 @@
--- What a machine owes that goes on without an event, so that every run of it ends.
+-- A condition on the steps without an event of a machine, from which every run of it ends.
 use Rattle.std.specs.Prelude.{ℕ, ℤ, Bool, ◌<◌, ◌≤◌, ◌⊎◌}
 use Rattle.cs_ast.specs.declared.place.Place.{Place}
 use Rattle.cs_inputs.specs.declared.path.Path.{Path}
@@ -11,7 +11,7 @@ use Rattle.cs_events.specs.Acts.{Act, Goes, Stops, Reads, Asks, Allocates, Reach
 use Rattle.cs_events.specs.Runs.{Setting, Log, EndsFrom}
 
 module _ {State : Type 0} where
-  -- where an act goes on before any event, whatever the inputs, the next state is of this kind
+  -- if an act continues without an event, whatever the inputs, the next state satisfies a predicate
   pub data Owes (Next : State → Type 0) : Act State → Type 0 where
     owes_next : {next : State} → Next next → Owes Next (Goes next)
     stops : {outcome : Outcome} → Owes Next (Stops outcome)
@@ -22,11 +22,11 @@ module _ {State : Type 0} where
     reaches : {at : Place} {object : Object} {offset : ℤ} {act : Act State} → Owes Next (Reaches at object offset act)
     touches : {touch : Touch} {act : Act State} → Owes Next act → Owes Next (Touches touch act)
 
-  -- a state with fewer turns left, or with as many and less weight
+  -- a state with fewer turns, or with at most as many and less weight
   abbrev pub IsBelow : (State → ℕ) → (State → ℕ) → ℕ → ℕ → State → Type 0
   IsBelow turns weight some much next = (turns next < some) ⊎ ((turns next ≤ some) × (weight next < much))
 
-  -- each step that goes on silently leaves fewer turns, or as many and less weight
+  -- each step that continues without an event lessens the turns, or the weight without more turns
   abbrev pub Lessens : (State → Act State) → (State → ℕ) → (State → ℕ) → Type 0
   Lessens step turns weight = (m : State) → Owes (IsBelow turns weight (turns m) (weight m)) (step m)
 

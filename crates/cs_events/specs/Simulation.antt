@@ -1,4 +1,4 @@
--- One machine follows another: its acts show, read, touch and end alike, and either may go on silently alone.
+-- Simulation of one machine by another: their acts show, read, touch and end alike; either may also take silent steps on its own.
 use Rattle.std.specs.Prelude.{◌≡◌, ℤ, Bool}
 use Rattle.cs_ast.specs.declared.place.Place.{Place}
 use Rattle.cs_inputs.specs.declared.path.Path.{Path}
@@ -25,13 +25,13 @@ module _ {S T : Type 0} (R : S → T → Type 0) where
     both_touch : {touch : Touch} {a : Act S} {b : Act T} → Yields a b → Yields (Touches touch a) (Touches touch b)
 
   module _ (step : S → Act S) (step' : T → Act T) where
-    -- a state answers another: the other goes on silently and stays related, or both do the same, the answering one after some
-    -- silent steps of its own
+    -- a state `t` answers `s`: `s` takes a silent step to a state that is still related, or both do the same, after some silent steps
+    -- of `t`
     pub data Answers : S → T → Type 0 where
       alone : {s next : S} {t : T} → step s ≡ Goes next → R next t → Answers s t
       together : {s : S} {t : T} → Yields (step s) (step' t) → Answers s t
       first : {s : S} {t next : T} → step' t ≡ Goes next → R s next → Answers s next → Answers s t
 
-    -- related states answer one another
+    -- each state answers the states related to it
     abbrev pub Simulates : Type 0
     Simulates = (s : S) (t : T) → R s t → Answers s t

@@ -1,8 +1,8 @@
-//! The events of a run: the steps at which its values show.
+//! The events of a run: the operations whose results are recorded.
 
 use cs_ast::Place;
 
-/// An event: where it is passed, and what it shows.
+/// An event: its source position, and what it shows.
 #[derive(Clone, Copy, PartialEq, Eq, Debug)]
 pub struct Event {
     pub place: Place,
@@ -14,11 +14,11 @@ pub struct Event {
 pub enum Label {
     /// The result of a comparison or of an order test.
     Truth(bool),
-    /// The way that a test takes.
+    /// The branch that a test takes.
     Branch(bool),
-    /// The number of the case that a `switch` takes, of those with a value, or how many there are for none of them.
+    /// The number of the case that a `switch` takes, among those with a value, or their count if none of them is taken.
     Case(u32),
-    /// How the exact result of an operator lies to its type.
+    /// By how much the exact result of an operator is outside its type.
     Wrap(Wrap),
     /// Whether a pointer isn't null.
     Look(bool),
@@ -26,11 +26,11 @@ pub enum Label {
     Offset(u64),
     /// The function that is called.
     Callee(u32),
-    /// Whether an allocation gives a block.
+    /// Whether an allocation returns a block.
     Alloc(bool),
 }
 
-/// The wrap quotient of an exact result: how many times the size of its type it lies off.
+/// The wrap quotient of an exact result: how many times wrapping subtracts 2^n from it, for a type of n bits.
 #[derive(Clone, Copy, PartialEq, Eq, Debug)]
 pub enum Wrap {
     /// The quotient is -1.

@@ -7,7 +7,7 @@ ghost use Rattle.cs_events.specs.InputCells as inputs;
 use crate::operation::Operation;
 use cs_types::{DataModel, IntType, difference_type, offset_bound};
 
-/// The numbers that may be guessed, from the first to the second, if any may.
+/// Returns the least and the greatest number that may be guessed for an operation, or `None` where guesses aren't allowed.
 pub fn guess_range(model: DataModel, operation: Operation) -> Option<(i128, i128)>
     ensures { result ≡ operations.guess_range model operation }
 {
@@ -24,21 +24,21 @@ pub fn guess_range(model: DataModel, operation: Operation) -> Option<(i128, i128
     }
 }
 
-/// Whether a number lies in a range, both ends included.
+/// Whether a number is in a range, both ends included.
 pub fn lies_in(range: (i128, i128), number: i128) -> bool
     ensures { result ≡ inputs.lies_in range number }
 {
     range.0 <= number && number <= range.1
 }
 
-/// The offsets that a pointer may have, from the least to the greatest.
+/// Returns the least and the greatest offset that a pointer may have.
 pub fn offsets(model: DataModel) -> (i128, i128)
     ensures { result ≡ (neg_ℤ (pos (offset_bound_of model)), pos (offset_bound_of model)) }
 {
     (-offset_bound(model), offset_bound(model))
 }
 
-/// The numbers of a type, from the least to the greatest (C11 5.2.4.2.1).
+/// Returns the least and the greatest number of a type (C11 5.2.4.2.1).
 pub fn numbers_of(model: DataModel, ty: IntType) -> (i128, i128)
     ensures { result ≡ operations.numbers_of model ty }
 {

@@ -1,6 +1,6 @@
 //! Runs of machines that execute typed programs: operations and what they show, guesses, and how a run ends.
 //!
-//! What a program means is stated over these in `specs/`: a step of a machine is an act, and `perform` is what a run makes of it.
+//! The specs define the meaning of programs over these: a step of a machine is an act, and `perform` carries it out in a run.
 #![tactic(auto)]
 
 pub mod event;

@@ -1,4 +1,4 @@
-//! How a run ends, and the budgets that it ends by.
+//! How a run ends, and the budgets that can end it.
 ghost use Rattle.std.specs.Prelude.{◌≡◌};
 ghost use Rattle.cs_events.specs.Budgets.{budget_name};
 
@@ -10,9 +10,9 @@ use cs_model::Kind;
 pub enum Outcome {
     /// The entry returned.
     Done(Returned),
-    /// A fault of this kind at this place.
+    /// A fault of this kind at this source position.
     Fault(Kind, Place),
-    /// A budget was met at this place.
+    /// This budget was exceeded at this source position.
     Over(Budget, Place),
 }
 
@@ -35,7 +35,7 @@ pub enum Budget {
 }
 
 impl Budget {
-    /// The word for this budget in reports.
+    /// Returns the word for this budget in reports.
     pub fn name(self) -> &'static str
         ensures { result.now ≡ budget_name self }
     {
@@ -47,13 +47,13 @@ impl Budget {
     }
 }
 
-/// How far a run goes.
+/// The bounds on the length of a run.
 #[derive(Clone, Copy, PartialEq, Eq, Debug)]
 pub struct RunBudgets {
-    /// How often one frame may reach a loop head or a label.
+    /// The greatest number of visits to one loop head or label in a frame.
     pub visits: u32,
-    /// How many frames there may be at a time.
+    /// The greatest number of frames at a time.
     pub depth: u32,
-    /// How many events a run may pass.
+    /// The greatest number of events.
     pub events: u64,
 }

@@ -1,9 +1,9 @@
-//! Control points: the places of a function at which a run can be seen.
+//! Control points: the points of a function that a run's trace lists.
 
-/// The kinds of control points, in the order in which they are listed at one place.
+/// The kinds of control points, in the order in which those at one source position are listed.
 #[derive(Clone, Copy, PartialEq, Eq, PartialOrd, Ord, Debug)]
 pub enum PointKind {
-    /// A function's body begins. Its place is the function's name.
+    /// The beginning of a function's body, at the function's name.
     Enter,
     /// The head of a loop, at the loop's keyword.
     Head,
@@ -11,9 +11,9 @@ pub enum PointKind {
     Label,
     /// A test, at its keyword or operator.
     Branch,
-    /// A `switch`, at its word.
+    /// A `switch`, at its keyword.
     Switch,
-    /// A `return`, at its word.
+    /// A `return`, at its keyword.
     Return,
     /// The end of a function's body, at its closing brace.
     End,

@@ -1,4 +1,4 @@
--- Where a label stands in a statement and in those after it: for the contracts of the table of labels.
+-- The labels in a statement and in those after it: for the contracts of the table of labels.
 use Rattle.std.proofs.Common.{◌≡◌, ℕ, ◌+◌, ◌==◌, Bool, true, false, List, [], ◌∷◌, Option, Some, None, Result, Ok, Err, OnOk}
 use Rattle.std.proofs.Common.{if◌then◌else◌, refl, sym, ap, ◌∙◌}
 use Rattle.cs_ast.specs.declared.place.Place.{Place}

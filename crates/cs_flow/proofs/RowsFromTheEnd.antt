@@ -1,4 +1,4 @@
--- Expressions, initializers and statements one after another, of which the last one is met last: for the loops that walk them from the end.
+-- Consecutive expressions, initializers and statements, of which the last one is reached last: for the loops that traverse them from the end.
 use Rattle.std.proofs.Common.{◌≡◌, List, [], ◌∷◌, ◌++◌, refl, sym, ap, ◌∙◌, append_assoc}
 use Rattle.cs_ast.specs.declared.typed.expression.Expr.{Expr}
 use Rattle.cs_ast.specs.declared.typed.statement.Initial.{Initial}

@@ -1,4 +1,4 @@
--- The ways out of a `switch`, by what its statements begin with: for the contract of `switch`.
+-- The ways out of a `switch`, by what is reached first from each of its statements on: for the contract of `switch`.
 use Rattle.std.proofs.Common.{◌≡◌, ℕ, zero, suc, ◌+◌, List, [], ◌∷◌, ◌++◌, length, refl, ap, ◌∙◌, arith}
 use Rattle.cs_ast.specs.declared.typed.statement.Case.{Case}
 use Rattle.cs_ast.specs.declared.typed.statement.Stmt.{Stmt}

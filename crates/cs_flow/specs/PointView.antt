@@ -1,4 +1,4 @@
--- Control points seen as those that are read off a function's statements.
+-- Control points, seen as those read off a function's statements.
 use Rattle.std.specs.Prelude.{List, [], map, Option}
 use Rattle.std.specs.Option.{option_map}
 use Rattle.cs_cfg.specs.ControlPoints as cfg
@@ -12,7 +12,7 @@ use Rattle.cs_flow.specs.declared.points.Points.{Points}
 abbrev pub met_of : Met → cfg.Met
 met_of m = cfg.the_point m.kind m.place
 
--- a control point whose ways aren't looked at
+-- a control point without its ways
 abbrev pub from_of : Met → cfg.ControlPoint
 from_of m = record { kind = m.kind; at = m.place; ways = [] }
 
@@ -30,6 +30,6 @@ way_of way = cfg.way (exit_of way.exit) (next_of way.next)
 abbrev pub point_of : ControlPoint → cfg.ControlPoint
 point_of point = record { kind = point.kind; at = point.place; ways = map way_of point.ways.items }
 
--- the control points in the order in which they stand in the file
+-- the control points in file order
 abbrev pub points_of : Points → List cfg.ControlPoint
 points_of points = map point_of points.list.items

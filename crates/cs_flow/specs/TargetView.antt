@@ -1,4 +1,4 @@
--- Where jumps lead.
+-- Targets of jumps.
 use Rattle.cs_cfg.specs.ControlPoints as cfg
 use Rattle.cs_flow.specs.declared.targets.Targets.{Targets}
 use Rattle.cs_flow.specs.LabelView.{labels_of}

@@ -8,6 +8,6 @@ use Rattle.cs_cfg.specs.FlowText.{routine_text}
 abbrev pub flow_of : List (List ℕ) → Routine → List ℕ
 flow_of files routine = routine_text files routine routine.body
 
--- the flows of so many functions
+-- the flows of the first `count` functions
 abbrev pub first_flows : TypedProgram → ℕ → List ℕ
 first_flows program count = flat_map (flow_of program.files) (take count program.routines)

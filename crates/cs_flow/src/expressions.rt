@@ -14,7 +14,7 @@ use cs_events::PointKind;
 use std::alloc::AllocError;
 
 impl Points {
-    /// Puts the control points of an expression before the others, which are met after it, and gives what is met first.
+    /// Puts the control points of an expression before the others, given what is reached after it; returns what is reached first.
     #[cycle(expression)]
     pub(crate) fn expression(&mut self, e: &Expr, following: Next) -> Result<Next, AllocError>
         ensures points { OnOk result
@@ -62,7 +62,7 @@ impl Points {
         }
     }
 
-    /// The same of two expressions, of which the first is evaluated first.
+    /// The same for two expressions, evaluated in this order.
     #[cycle(expression)]
     fn pair(&mut self, a: &Expr, b: &Expr, following: Next) -> Result<Next, AllocError>
         ensures points { OnOk result
@@ -77,7 +77,7 @@ impl Points {
         self.expression(a, second)
     }
 
-    /// The same of a test at a place: what is met where it holds, and where it doesn't.
+    /// The same for a test at a source position, given what is reached if it is true, and if it is false.
     #[cycle(expression)]
     fn test(
         &mut self,
@@ -96,7 +96,7 @@ impl Points {
         self.expression(test, meets(PointKind::Branch, place))
     }
 
-    /// The same of expressions one after another.
+    /// The same for consecutive expressions.
     #[cycle(expression)]
     fn expressions(&mut self, list: &[Expr], following: Next) -> Result<Next, AllocError>
         ensures points { OnOk result
@@ -112,7 +112,7 @@ impl Points {
         Ok(next)
     }
 
-    /// The same of an optional expression.
+    /// The same for an optional expression.
     pub(crate) fn optional(&mut self, e: &Option<Expr>, following: Next) -> Result<Next, AllocError>
         ensures points { OnOk result
             (points_of self.new ≡ cfg.points_some (some_typed e.now) (next_of following)

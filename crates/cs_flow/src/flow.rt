@@ -14,7 +14,7 @@ use std::alloc::{AllocError, Global};
 
 /// Appends the flow of a program: for each function with a body its name and the lines of its control points, function by function.
 ///
-/// Where memory is short, the flows of the first functions may have been appended.
+/// If memory runs out, the flows of the first functions may have been appended.
 pub fn append_flow(out: &mut Vec<u8>, program: &Program) -> Result<(), AllocError>
     ensures whole { OnOk result (out.new.items
         ≡ out.old.items ++ cfg.program_flow (typed_program program.now)) }
@@ -28,7 +28,7 @@ pub fn append_flow(out: &mut Vec<u8>, program: &Program) -> Result<(), AllocErro
     Ok(())
 }
 
-/// The flow of a function: nothing where it has no body.
+/// Returns the flow of a function; empty if it has no body.
 fn function_text(alloc: Global, files: &[Name], function: &Function) -> Result<Vec<u8>, AllocError>
     ensures { IfOk result (λ text.
         text.items ≡ cfg.routine_text files.now (routine function.now)

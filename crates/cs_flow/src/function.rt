@@ -13,8 +13,8 @@ use cs_ast::typed::statement::Stmt;
 use cs_events::PointKind;
 use std::alloc::{AllocError, Global};
 
-/// The control points of a function with a body, in the order in which they stand in the file. Outside of loops and `switch`,
-/// `break` and `continue` leave the frame.
+/// Returns the control points of a function with a body, in file order. Outside of loops and `switch`, `break` and
+/// `continue` end the frame.
 pub(crate) fn control_points(
     alloc: Global,
     function: &Function,

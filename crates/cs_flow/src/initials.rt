@@ -10,7 +10,7 @@ use cs_ast::typed::statement::Initial;
 use std::alloc::AllocError;
 
 impl Points {
-    /// Puts the control points of an initializer before the others, which are met after it, and gives what is met first.
+    /// Puts the control points of an initializer before the others, given what is reached after it; returns what is reached first.
     #[cycle(initial)]
     pub(crate) fn initial(&mut self, first: &Initial, following: Next) -> Result<Next, AllocError>
         ensures points { OnOk result
@@ -26,7 +26,7 @@ impl Points {
         }
     }
 
-    /// The same of the initializers of parts, which are stored one after another.
+    /// The same for the initializers of parts, which are stored one after another.
     #[cycle(initial)]
     fn parts(&mut self, list: &[Initial], following: Next) -> Result<Next, AllocError>
         ensures points { OnOk result

@@ -1,4 +1,4 @@
-//! What the labels of a function lead to (C11 6.8.1).
+//! The control points at the labels of a function (C11 6.8.1).
 ghost use Rattle.std.specs.Prelude.{◌≡◌, ℕ, IfOk, OnOk};
 ghost use Rattle.cs_ast.specs.TypedView.{statement, statement_list};
 ghost use Rattle.cs_cfg.specs.ControlPoints.{at_label};
@@ -12,14 +12,14 @@ use cs_events::PointKind;
 use std::alloc::{AllocError, Global};
 use std::collections::HashMap;
 
-/// The places of a function's labels, by their numbers. Where two labels have one number, the first counts.
+/// The source positions of a function's labels, by their numbers. If two labels have the same number, the first one is used.
 #[derive(Drop)]
 pub(crate) struct Labels {
     places: HashMap<u32, Place>,
 }
 
 impl Labels {
-    /// The labels of a function's body.
+    /// Returns the labels of a function's body.
     pub(crate) fn of(alloc: Global, body: &Stmt) -> Result<Labels, AllocError>
         ensures { IfOk result (λ labels.
             (label : ℕ) → labels_of labels label ≡ label_in label (statement body.now)) }
@@ -31,7 +31,7 @@ impl Labels {
         Ok(labels)
     }
 
-    /// What a label leads to: nothing where it isn't there.
+    /// Returns the control point at a label; nothing if there is no such label.
     pub(crate) fn next(&self, label: u32) -> Next
         ensures { next_of result ≡ labels_of self.now label }
     {
@@ -41,7 +41,7 @@ impl Labels {
         }
     }
 
-    /// Adds the labels of a statement that aren't known yet.
+    /// Adds the labels of a statement that aren't there yet.
     #[cycle(labels)]
     fn find(&mut self, s: &Stmt) -> Result<(), AllocError>
         ensures { OnOk result ((label : ℕ)
@@ -68,7 +68,7 @@ impl Labels {
         }
     }
 
-    /// The same of statements one after another.
+    /// The same for consecutive statements.
     #[cycle(labels)]
     fn find_in(&mut self, list: &[Stmt]) -> Result<(), AllocError>
         ensures { OnOk result ((label : ℕ)
@@ -82,7 +82,7 @@ impl Labels {
         Ok(())
     }
 
-    /// Adds a label at a place, if it isn't known yet.
+    /// Adds a label at a source position, unless it is there.
     fn add(&mut self, label: u32, place: Place) -> Result<(), AllocError>
         ensures { OnOk result ((wanted : ℕ)
             → labels_of self.new wanted

@@ -1,4 +1,4 @@
-//! The text of a program's flow: for each function its control points, and what is met next on each way out of them.
+//! The text of a program's flow: for each function its control points, and what is reached next on each way out of them.
 #![tactic(auto)]
 
 mod expressions;

@@ -26,7 +26,7 @@ pub(crate) fn append_points(
     Ok(())
 }
 
-/// Appends the lines of a control point: one for each way on which another is met.
+/// Appends the lines of a control point: one for each way on which another one is reached.
 fn append_point(text: &mut Vec<u8>, files: &[Name], point: &ControlPoint) -> Result<(), AllocError>
     ensures { OnOk result (text.new.items
         ≡ text.old.items ++ cfg.point_lines files.now (point_of point.now)) }
@@ -41,7 +41,7 @@ fn append_point(text: &mut Vec<u8>, files: &[Name], point: &ControlPoint) -> Res
     Ok(())
 }
 
-/// Appends `  KIND PLACE WAY -> KIND PLACE`, if a control point is met on the way.
+/// Appends `  KIND PLACE WAY -> KIND PLACE`, if a control point is reached on the way.
 fn append_way(text: &mut Vec<u8>, files: &[Name], from: Met, way: Way) -> Result<(), AllocError>
     ensures { OnOk result (text.new.items
         ≡ text.old.items ++ cfg.next_line files.now (from_of from) (exit_of way.exit)
@@ -58,7 +58,7 @@ fn append_way(text: &mut Vec<u8>, files: &[Name], from: Met, way: Way) -> Result
     append(text, "\n")
 }
 
-/// Appends the way out of a control point, with the space before it, where there are several.
+/// Appends the text of a way out of a control point, after a space; nothing if it is the only way.
 fn append_exit(text: &mut Vec<u8>, exit: Exit) -> Result<(), AllocError>
     ensures { OnOk result (text.new.items ≡ text.old.items ++ cfg.exit_text (exit_of exit)) }
 {
@@ -79,7 +79,7 @@ fn append_met(text: &mut Vec<u8>, files: &[Name], met: Met) -> Result<(), AllocE
     append_place(text, files, met.place)
 }
 
-/// The word for a kind of control points.
+/// Returns the word for a kind of control points.
 fn kind_name(kind: PointKind) -> &'static str
     ensures { result.now ≡ cfg.kind_text kind }
 {

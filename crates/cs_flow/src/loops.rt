@@ -16,7 +16,7 @@ use cs_events::PointKind;
 use std::alloc::AllocError;
 
 impl Points {
-    /// Puts the control points of a `while` before the others, which are met after it, and gives what is met first (C11 6.8.5.1).
+    /// Puts the control points of a `while` before the others, given what is reached after it; returns what is reached first (C11 6.8.5.1).
     #[cycle(statement)]
     pub(crate) fn while_loop(
         &mut self,
@@ -41,7 +41,7 @@ impl Points {
         Ok(head)
     }
 
-    /// The same of a `do` (C11 6.8.5.2).
+    /// The same for a `do` (C11 6.8.5.2).
     #[cycle(statement)]
     pub(crate) fn do_loop(
         &mut self,
@@ -67,8 +67,8 @@ impl Points {
         Ok(head)
     }
 
-    /// The same of a `for` (C11 6.8.5.3), after which a `break` in its first part leads too. Its body stands after its last part, and is
-    /// met before it.
+    /// The same for a `for` (C11 6.8.5.3). A `break` in its first part leads to the end of the loop too. The points of its body come after those of
+    /// its last part, but the body is reached first.
     #[cycle(statement)]
     pub(crate) fn for_loop(
         &mut self,
@@ -103,8 +103,8 @@ impl Points {
         Ok(start)
     }
 
-    /// Puts the control points in the test of a `for`, if there is one, and gives what is met after the head: what the body begins
-    /// with where there is no test.
+    /// Puts the control points in the test of a `for`, if there is one, before the others; returns what is reached after the head: without a test
+    /// the beginning of the body.
     fn for_test(
         &mut self,
         place: Place,

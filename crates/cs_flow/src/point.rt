@@ -1,4 +1,4 @@
-//! Control points, the ways out of them, and what is met next.
+//! Control points, the ways out of them, and what is reached next.
 ghost use Rattle.std.specs.Prelude.{◌≡◌};
 ghost use Rattle.cs_cfg.specs.ControlPoints as cfg;
 ghost use Rattle.cs_flow.specs.PointView.{next_of};
@@ -6,17 +6,17 @@ ghost use Rattle.cs_flow.specs.PointView.{next_of};
 use cs_ast::Place;
 use cs_events::PointKind;
 
-/// A control point that a run meets.
+/// A control point that a run reaches.
 #[derive(Clone, Copy)]
 pub struct Met {
     pub kind: PointKind,
     pub place: Place,
 }
 
-/// What is met next: nothing where the frame is left without a control point, as after a `break` that stands in no loop.
+/// What is reached next: nothing if the frame ends without reaching a control point, as after a `break` outside of loops.
 pub type Next = Option<Met>;
 
-/// A control point of a kind at a place, which is met next.
+/// Returns a control point of a kind at a source position, as the next one.
 pub fn meets(kind: PointKind, place: Place) -> Next
     ensures { next_of result ≡ cfg.met kind place }
 {
@@ -26,15 +26,15 @@ pub fn meets(kind: PointKind, place: Place) -> Next
 /// A way out of a control point.
 #[derive(Clone, Copy)]
 pub enum Exit {
-    /// The one way there is.
+    /// The only way.
     Onward,
-    /// Where a test holds, or where it doesn't.
+    /// The branch of a test that is true, or false.
     Truth(bool),
     /// A case of a `switch`, by its number among those with a value.
     Case(usize),
 }
 
-/// A way out of a control point, and what is met next.
+/// A way out of a control point, and what is reached next.
 #[derive(Clone, Copy)]
 pub struct Way {
     pub exit: Exit,

@@ -1,4 +1,4 @@
-//! The control points of a function, which are found from its end.
+//! The control points of a function, collected from its end.
 ghost use Rattle.std.specs.Prelude.{◌≡◌, ◌∷◌, ◌++◌, List, [], OnOk, map, true, false};
 ghost use Rattle.cs_events.specs.declared.point.PointKind.TheVariants as kinds;
 ghost use Rattle.cs_cfg.specs.ControlPoints as cfg;
@@ -10,15 +10,15 @@ use cs_events::PointKind;
 use std::alloc::{AllocError, Global};
 use std::collections::VecDeque;
 
-/// Control points in the order in which they stand in the file. What comes before them is put before them, so that all that is met
-/// after a part of a function is known where its points are made.
+/// Control points in file order. They are collected in reverse order, so that what is reached after a part of a function is known when the
+/// part's points are made.
 #[derive(Drop)]
 pub(crate) struct Points {
     pub(crate) list: VecDeque<ControlPoint>,
 }
 
 impl Points {
-    /// No control points.
+    /// Returns an empty list.
     pub(crate) fn new(alloc: Global) -> Points
         ensures { points_of result ≡ [] }
     {
@@ -61,7 +61,7 @@ impl Points {
         self.put(ControlPoint { kind, place, ways })
     }
 
-    /// Puts a test before the others: what is met where it holds, and where it doesn't.
+    /// Puts a test before the others, given what is reached if it is true, and if it is false.
     pub(crate) fn put_tested(
         &mut self,
         place: Place,
@@ -85,7 +85,7 @@ impl Points {
         self.put(ControlPoint { kind, place, ways })
     }
 
-    /// Puts a control point before the others, after which nothing of the function is met.
+    /// Puts a control point, after which no other point of the function is reached, before the others.
     pub(crate) fn put_last(&mut self, kind: PointKind, place: Place) -> Result<(), AllocError>
         ensures { OnOk result (points_of self.new
             ≡ cfg.last_point kind place ∷ points_of self.old) }

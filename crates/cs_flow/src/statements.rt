@@ -16,7 +16,7 @@ use cs_events::PointKind;
 use std::alloc::AllocError;
 
 impl Points {
-    /// Puts the control points of a statement before the others, which are met after it, and gives what is met first.
+    /// Puts the control points of a statement before the others, given what is reached after it; returns what is reached first.
     #[cycle(statement)]
     pub(crate) fn statement(
         &mut self,
@@ -62,7 +62,7 @@ impl Points {
         }
     }
 
-    /// The same of a label and the statement after it (C11 6.8.1).
+    /// The same for a label and the statement after it (C11 6.8.1).
     #[cycle(statement)]
     fn label(
         &mut self,
@@ -83,7 +83,7 @@ impl Points {
         Ok(meets(PointKind::Label, place))
     }
 
-    /// The same of statements one after another.
+    /// The same for consecutive statements.
     #[cycle(statement)]
     pub(crate) fn statements(
         &mut self,
@@ -105,8 +105,8 @@ impl Points {
         Ok(next)
     }
 
-    /// The same of the test at the place of a statement: what is met where it holds, and where it doesn't. Its ways stand before the
-    /// control points in the test.
+    /// The same for the test at the source position of a statement, given what is reached if it is true, and if it is false. Its ways come before
+    /// the control points in the test.
     pub(crate) fn decision(
         &mut self,
         place: Place,
@@ -125,7 +125,7 @@ impl Points {
         Ok(first)
     }
 
-    /// The same of a `return` (C11 6.8.6.4), after which nothing of the function is met.
+    /// The same for a `return` (C11 6.8.6.4), after which no other point of the function is reached.
     fn leave(&mut self, place: Place, value: &Option<Expr>) -> Result<Next, AllocError>
         ensures points { OnOk result
             (points_of self.new ≡ cfg.last_point kinds.Return place

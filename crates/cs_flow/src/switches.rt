@@ -19,7 +19,7 @@ use std::alloc::{AllocError, Global};
 use std::collections::VecDeque;
 
 impl Points {
-    /// Puts the control points of a `switch` before the others, which are met after it, and gives what is met first.
+    /// Puts the control points of a `switch` before the others, given what is reached after it; returns what is reached first.
     #[cycle(statement)]
     pub(crate) fn switch(
         &mut self,
@@ -47,7 +47,7 @@ impl Points {
         Ok(first)
     }
 
-    /// The same of statements one after another, for each of which it gives what is met first from it on.
+    /// The same for consecutive statements; returns for each of them what is reached first from it on.
     #[cycle(statement)]
     fn each_statement(
         &mut self,
@@ -72,7 +72,7 @@ impl Points {
     }
 }
 
-/// The ways out of a `switch`: those of its cases with a value, counted from 0, and that of any other number.
+/// Returns the ways out of a `switch`: those of its cases with a value, counted from 0, and that of all other numbers.
 fn case_ways(
     alloc: Global,
     cases: &[Case],
@@ -97,14 +97,14 @@ fn case_ways(
     Ok(ways)
 }
 
-/// What is met first from the statement with a number on: what is met after them all where there is no such statement.
+/// Returns what is reached first from the statement with a number on; if there is no such statement, what is reached after all of them.
 fn start_at(starts: &VecDeque<Next>, item: usize, following: Next) -> Next
     ensures { next_of result ≡ start_at (map next_of starts.now.items) (next_of following) item }
 {
     starts.get(item).copied().unwrap_or(following)
 }
 
-/// The number of the statement that `default` leads to, or another number where there is no `default`.
+/// Returns the number of the statement that `default` leads to, or another number if there is no `default`.
 fn default_item(cases: &[Case], otherwise: usize) -> usize
     ensures { result ≡ meaning.default_item cases.now otherwise }
 {

@@ -1,4 +1,4 @@
-//! Where jumps lead (C11 6.8.6).
+//! Targets of jumps (C11 6.8.6).
 ghost use Rattle.std.specs.Prelude.{◌≡◌};
 ghost use Rattle.cs_cfg.specs.ControlPoints as cfg;
 ghost use Rattle.cs_flow.specs.PointView.{next_of};
@@ -7,18 +7,18 @@ ghost use Rattle.cs_flow.specs.TargetView.{targets_of};
 use crate::labels::Labels;
 use crate::point::Next;
 
-/// Where jumps lead.
+/// The targets of jumps.
 #[derive(Clone, Copy)]
 pub(crate) struct Targets<'a> {
-    /// What is met after the nearest loop or `switch`.
+    /// What is reached after the nearest loop or `switch`.
     pub(crate) out: Next,
-    /// What `continue` leads to.
+    /// What `continue` reaches.
     pub(crate) again: Next,
     pub(crate) labels: &'a Labels,
 }
 
 impl<'a> Targets<'a> {
-    /// The targets inside a loop: what is met after it, and what `continue` leads to.
+    /// Returns the targets inside a loop, given what is reached after it, and by `continue`.
     pub(crate) fn in_loop(self, out: Next, again: Next) -> Targets<'a>
         ensures { targets_of result
             ≡ cfg.in_loop (targets_of self.entry) (next_of out) (next_of again) }
@@ -27,7 +27,7 @@ impl<'a> Targets<'a> {
         Targets { out, again, labels }
     }
 
-    /// The targets inside a `switch`: what is met after it.
+    /// Returns the targets inside a `switch`, given what is reached after it.
     pub(crate) fn in_switch(self, out: Next) -> Targets<'a>
         ensures { targets_of result ≡ cfg.in_switch (targets_of self.entry) (next_of out) }
     {

@@ -1,4 +1,4 @@
--- Statements in a row: for the contracts of `put_from` and `count_of`.
+-- Consecutive statements: for the contracts of `put_from` and `count_of`.
 use Rattle.std.proofs.Common.{◌≡◌, ℕ, zero, suc, ◌+◌, ◌<◌, ◌≤◌, List, [], ◌∷◌, drop, take, length, refl, ap, ◌∙◌, arith}
 use Rattle.cs_ast.specs.declared.typed.statement.Stmt.{Stmt}
 use Rattle.cs_ast.specs.TypedTree.{count_of}

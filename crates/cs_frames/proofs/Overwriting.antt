@@ -1,4 +1,4 @@
--- An object that is changed or stays as it was: for the contract of `overwrite`.
+-- An object that is changed or stays the same: for the contract of `overwrite`.
 use Rattle.std.proofs.Common.{◌≡◌, Bool, true, false, Some, None, refl, sym, ap, subst, arith, if◌then◌else◌}
 use Rattle.std.specs.Prelude.{option_map}
 use Rattle.std.specs.declared.cmp.Ordering.{Ordering}

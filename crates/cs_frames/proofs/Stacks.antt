@@ -1,4 +1,4 @@
--- Lists that are kept with their first element last, without some of their first elements: for the contracts of `pop_newest` and
+-- Lists stored in reverse order, without some of their first elements: for the contracts of `pop_newest` and
 -- `drop_first`.
 use Rattle.std.proofs.Common.{◌≡◌, ℕ, zero, suc, ◌-◌, ◌<◌, ◌≤◌, List, [], ◌∷◌, ◌++◌, map, length, take, drop, reverse, refl}
 use Rattle.std.proofs.Common.{sym, ap, ◌∙◌, arith}

@@ -1,4 +1,4 @@
--- What is written through the arguments from a number on: for the contract of `write_arguments`.
+-- Writes through the arguments from a number on: for the contract of `write_arguments`.
 use Rattle.std.proofs.Common.{◌≡◌, ℕ, zero, suc, ◌+◌, ◌<◌, Bool, true, false, List, [], ◌∷◌, drop, ◌⊎◌, inl, inr, refl, length}
 use Rattle.std.proofs.Common.{arith}
 use Rattle.cs_ast.specs.declared.place.Place.{Place}

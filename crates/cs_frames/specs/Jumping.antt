@@ -1,4 +1,4 @@
--- What a search for a label leaves to be done.
+-- The things to do after a search for a label.
 use Rattle.std.specs.Prelude.{◌≡◌, ℕ, ◌+◌, ◌==◌, if◌then◌else◌, List, ◌∷◌, Option, Some, None, Vec}
 use Rattle.std.specs.declared.alloc.Global.{Global}
 use Rattle.cs_ast.specs.declared.place.Place.{Place}
@@ -9,12 +9,12 @@ use Rattle.cs_run_state.specs.declared.items.Item.{Item}
 use Rattle.cs_frames.specs.declared.landing.Landing.{Landing}
 use Rattle.cs_run_state.specs.MachineView.{todo_of}
 
--- the label was found as it was wanted, and this is to be done there; or it wasn't, and as much is to be done as before
+-- the label was found as wanted, with these things to do there; or there is none, and the things to do are the same as before
 abbrev pub lands_at : Option jumps.Landing → Vec Item Global → Vec Item Global → Option Landing → Type 0
 lands_at wanted old new None = (wanted ≡ None) × (todo_of new.items ≡ todo_of old.items)
 lands_at wanted old new (Some found) = wanted ≡ Some (record { counted_point = found.counted_point; at = found.place; todo = todo_of new.items })
 
--- where a label stands in a statement with a label at a place
+-- the label in a labeled statement at a source position
 abbrev pub label_landing : ℕ → ℕ → Place → Statement → ℕ → List ToDo → Option jumps.Landing
 label_landing wanted label at body counted_point following =
     if label == wanted

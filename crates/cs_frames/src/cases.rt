@@ -1,4 +1,4 @@
-//! The cases of a `switch`, and the statements that are to be done from one on (C11 6.8.4.2).
+//! The cases of a `switch`, and the execution of its statements from one on (C11 6.8.4.2).
 ghost use Rattle.std.specs.Prelude.{◌≡◌, ℕ, OnOk, IfOk, None, option_map, unwrap_or};
 ghost use Rattle.cs_ast.specs.TypedTree as typed;
 ghost use Rattle.cs_ast.specs.TypedView.{statement_list};
@@ -13,14 +13,14 @@ use cs_objects::counted_points::{counted_points_in, together};
 use cs_run_state::machine::Machine;
 use std::alloc::AllocError;
 
-/// A case that was found: its number among those with a value, and the number of the statement that it leads to.
+/// A selected case: its number among those with a value, and the number of the statement that it leads to.
 #[derive(Clone, Copy)]
 pub struct Chosen {
     pub number: u32,
     pub item: u32,
 }
 
-/// Statements from the one with a number on are to be executed.
+/// Schedules the statements from the one with a number on.
 pub fn put_from<'a>(
     state: &mut Machine<'a>,
     statements: &'a [Stmt],
@@ -43,7 +43,7 @@ pub fn put_from<'a>(
     Ok(())
 }
 
-/// The case that a `switch` takes: that of its number, else `default`, else none, which leads after all statements.
+/// Returns the case that a `switch` takes: that of its value, else `default`, else none, which leads to the end of all statements.
 pub fn chosen_case(cases: &[Case], statements: &[Stmt], number: i128) -> Result<Chosen, AllocError>
     ensures { IfOk result (λ chosen.
         chosen_of chosen ≡ meaning.chosen_case cases.now (statement_list statements.now)
@@ -55,7 +55,7 @@ pub fn chosen_case(cases: &[Case], statements: &[Stmt], number: i128) -> Result<
     }
 }
 
-// The case that a `switch` takes where none stands for its number.
+// Returns the case that a `switch` takes if none has its value.
 fn otherwise(cases: &[Case], statements: &[Stmt]) -> Result<Chosen, AllocError>
     ensures { IfOk result (λ chosen.
         chosen_of chosen ≡ meaning.chosen_case cases.now (statement_list statements.now) None) }
@@ -66,7 +66,7 @@ fn otherwise(cases: &[Case], statements: &[Stmt]) -> Result<Chosen, AllocError>
     Ok(Chosen { number, item })
 }
 
-// How many statements there are.
+// Returns the number of statements.
 #[tactic(auto, using(crate::proofs::InRows::count_of_list))]
 fn count_of(statements: &[Stmt]) -> Result<u32, AllocError>
     ensures { IfOk result (λ count. count ≡ typed.count_of (statement_list statements.now)) }
@@ -74,7 +74,7 @@ fn count_of(statements: &[Stmt]) -> Result<u32, AllocError>
     u32::try_from(statements.len()).ok().ok_or(AllocError)
 }
 
-// The case that stands for a number.
+// Returns the case with a value, if there is one.
 fn case_of(cases: &[Case], number: i128) -> Result<Option<Chosen>, AllocError>
     ensures { IfOk result (λ found.
         option_map chosen_of found ≡ meaning.case_of cases.now number 0) }
@@ -95,7 +95,7 @@ fn case_of(cases: &[Case], number: i128) -> Result<Option<Chosen>, AllocError>
     Ok(None)
 }
 
-// How many cases have a value.
+// Returns the number of cases with a value.
 fn values_in(cases: &[Case]) -> Result<u32, AllocError>
     ensures { IfOk result (λ count. count ≡ meaning.values_in cases.now) }
 {
@@ -108,7 +108,7 @@ fn values_in(cases: &[Case]) -> Result<u32, AllocError>
     Ok(count)
 }
 
-// Where `default` leads, if there is one.
+// Returns the statement that `default` leads to, if there is one.
 fn default_item(cases: &[Case]) -> Option<u32>
     ensures { (otherwise : ℕ)
         → meaning.default_item cases.now otherwise ≡ unwrap_or result otherwise }

@@ -17,14 +17,14 @@ use cs_values::Operand;
 use cs_values::types::size_of;
 use std::alloc::{AllocError, Global};
 
-// The place of nothing.
+// A default source position.
 const NOWHERE: Place = Place {
     file: 0,
     line: 0,
     column: 0,
 };
 
-/// The number of the frame that runs.
+/// Returns the number of the current frame.
 #[tactic(auto, unfolding(cs_run_state::specs::MachineView::state_of))]
 pub fn number_of(state: &Machine) -> u64
     ensures { result ≡ (state_of state.now).frame.number }
@@ -32,7 +32,7 @@ pub fn number_of(state: &Machine) -> u64
     state.frame.number
 }
 
-/// A frame in which a function is to be executed.
+/// Returns a frame at the beginning of a function.
 pub fn new_frame<'a>(
     alloc: Global,
     function: u32,
@@ -62,7 +62,7 @@ pub fn new_frame<'a>(
     })
 }
 
-/// A frame of a function that isn't there: it has no body and gives nothing.
+/// Returns a frame of a function that doesn't exist: it has no body and returns nothing.
 pub fn no_frame<'a>(alloc: Global, function: u32, number: u64) -> Result<Frame<'a>, AllocError>
     ensures { IfOk result (λ frame.
         frame_of frame ≡ calls.new_frame function number (machine.no_routine machine.NOWHERE)) }
@@ -80,7 +80,7 @@ pub fn no_frame<'a>(alloc: Global, function: u32, number: u64) -> Result<Frame<'
     })
 }
 
-/// So many zeros.
+/// Returns `count` zeros.
 pub fn zeros(alloc: Global, count: u64) -> Result<Vec<u32>, AllocError>
     ensures { IfOk result (λ made. made.items ≡ replicate count 0) }
 {
@@ -91,7 +91,7 @@ pub fn zeros(alloc: Global, count: u64) -> Result<Vec<u32>, AllocError>
     Ok(made)
 }
 
-/// The locals of a new frame with these arguments: nothing of them is set, but a parameter holds its argument (C11 6.2.4, paragraph 6).
+/// Returns the locals of a new frame with these arguments: they are unset, but a parameter holds its argument (C11 6.2.4, paragraph 6).
 pub fn local_blocks<'a>(
     alloc: Global,
     program: &Program,
@@ -112,7 +112,7 @@ pub fn local_blocks<'a>(
     Ok(made)
 }
 
-// A local of a new frame, with its argument if it is a parameter.
+// Returns a local of a new frame, with its argument if it is a parameter.
 #[tactic(auto, using(crate::proofs::NewLocals::locals))]
 fn local_block<'a>(
     alloc: Global,

@@ -1,4 +1,4 @@
-//! Where jumps lead (C11 6.8.6): what is still to be done there.
+//! Jumps (C11 6.8.6): the things to do at their targets.
 ghost use Rattle.std.specs.Prelude.{◌≡◌, ◌+◌, ◌∷◌, IfOk};
 ghost use Rattle.cs_ast.specs.TypedView.{statement, statement_list};
 ghost use Rattle.cs_meaning.specs.Machine as machine;
@@ -17,14 +17,14 @@ use cs_run_state::items::{Item, StmtStep};
 use cs_run_state::machine::Machine;
 use std::alloc::AllocError;
 
-/// Where a label stands: its counted point and its place.
+/// A label that was found: its counted point and its source position.
 #[derive(Clone, Copy)]
 pub struct Landing {
     pub counted_point: u64,
     pub place: Place,
 }
 
-/// Leaves the nearest loop or `switch`.
+/// Drops the things to do in the nearest loop or `switch`.
 #[tactic(auto, unfolding(cs_run_state::specs::MachineView::state_of))]
 pub fn break_out(state: &mut Machine)
     ensures { state_of state.new ≡ machine.to_do
@@ -33,7 +33,7 @@ pub fn break_out(state: &mut Machine)
     drop_past_out(&mut state.frame.todo);
 }
 
-/// Leaves the body of the nearest loop.
+/// Drops the things to do in the body of the nearest loop.
 #[tactic(auto, unfolding(cs_run_state::specs::MachineView::state_of))]
 pub fn go_on(state: &mut Machine)
     ensures { state_of state.new ≡ machine.to_do (jumps.continued (state_of state.old).frame.todo)
@@ -42,7 +42,7 @@ pub fn go_on(state: &mut Machine)
     drop_to_again(&mut state.frame.todo);
 }
 
-/// The number of the function that runs.
+/// Returns the number of the current function.
 #[tactic(auto, unfolding(cs_run_state::specs::MachineView::state_of))]
 pub fn function_of(state: &Machine) -> u32
     ensures { result ≡ (state_of state.now).frame.function }
@@ -50,7 +50,7 @@ pub fn function_of(state: &Machine) -> u32
     state.frame.function
 }
 
-/// This is to be done.
+/// Replaces the things to do.
 #[tactic(auto, unfolding(cs_run_state::specs::MachineView::state_of))]
 pub fn set_todo<'a>(state: &mut Machine<'a>, todo: Vec<Item<'a>>)
     ensures { state_of state.new ≡ machine.to_do (todo_of todo.entry.items) (state_of state.old) }
@@ -58,8 +58,8 @@ pub fn set_todo<'a>(state: &mut Machine<'a>, todo: Vec<Item<'a>>)
     state.frame.todo = todo;
 }
 
-/// Where a label stands in a statement, the first counted point of which has a number. What is to be done once it is reached is then put before
-/// what is to be done after the statement; else nothing is put there.
+/// Finds a label in a statement, whose first counted point has a number. If it is found, `todo`, which has the things to do after the
+/// statement, gets those at the label before them; else it stays the same.
 #[cycle(seek)]
 pub fn seek<'a>(
     label: u32,
@@ -97,7 +97,7 @@ pub fn seek<'a>(
     }
 }
 
-// The same in a statement with a label, which is itself a counted point.
+// The same in a labeled statement; its label is a counted point too.
 #[cycle(seek)]
 fn seek_at_label<'a>(
     label: u32,
@@ -167,7 +167,7 @@ fn seek_in_for<'a>(
     seek_in_loop(label, body, inner, s, counted_point, todo)
 }
 
-// The same in the body of a loop, the first counted point of which has a number of its own.
+// The same in the body of a loop, whose first counted point has a number of its own.
 #[cycle(seek)]
 fn seek_in_loop<'a>(
     label: u32,
@@ -216,7 +216,7 @@ fn seek_in_switch<'a>(
     }
 }
 
-// The same in statements one after another.
+// The same in consecutive statements.
 #[cycle(seek)]
 fn seek_in<'a>(
     label: u32,

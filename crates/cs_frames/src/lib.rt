@@ -1,4 +1,4 @@
-//! The frames of a run: what is to be done in them, their locals and operands, and how they begin.
+//! The frames of a run: their things to do, locals and operands, and how they begin.
 #![tactic(auto, using(cs_run_log::proofs::Performing::silent))]
 
 pub mod cases;

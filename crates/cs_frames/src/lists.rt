@@ -1,4 +1,4 @@
-//! Lists of things to do, which are kept with the first thing last.
+//! Lists of things to do, stored in reverse order.
 #![tactic(auto, using(cs_run_state::proofs::States::states))]
 
 ghost use Rattle.std.specs.Prelude.{◌≡◌, List, ◌∷◌, drop, OnOk, if◌then◌else◌};
@@ -12,7 +12,7 @@ use cs_objects::counted_points::{counted_points, counted_points_in, together};
 use cs_run_state::items::{Item, StmtStep};
 use std::alloc::AllocError;
 
-/// Puts a thing before what is to be done.
+/// Puts a thing to do before the others.
 pub fn put_first<'a>(todo: &mut Vec<Item<'a>>, item: Item<'a>) -> Result<(), AllocError>
     ensures { OnOk result (todo_of todo.new.items
         ≡ item_of item.entry ∷ todo_of todo.old.items) }
@@ -21,7 +21,7 @@ pub fn put_first<'a>(todo: &mut Vec<Item<'a>>, item: Item<'a>) -> Result<(), All
     Ok(())
 }
 
-/// Takes away the first thing to do, if there is one.
+/// Drops the first thing to do, if there is one.
 #[tactic(auto, using(crate::proofs::Stacks::stacks))]
 pub fn drop_first(todo: &mut Vec<Item>)
     ensures { todo_of todo.new.items ≡ drop 1 (todo_of todo.old.items) }
@@ -29,7 +29,7 @@ pub fn drop_first(todo: &mut Vec<Item>)
     todo.pop();
 }
 
-/// Takes away the first things to do, up to where `break` leads.
+/// Drops the first things to do, up to and including the mark to which `break` leads.
 pub fn drop_past_out(todo: &mut Vec<Item>)
     ensures { todo_of todo.new.items ≡ jumps.broken_out (todo_of todo.old.items) }
 {
@@ -40,7 +40,7 @@ pub fn drop_past_out(todo: &mut Vec<Item>)
     }
 }
 
-/// Takes away the first things to do, up to what comes after the body of a loop.
+/// Drops the things to do before the step after the body of the nearest loop.
 pub fn drop_to_again(todo: &mut Vec<Item>)
     ensures { todo_of todo.new.items ≡ jumps.continued (todo_of todo.old.items) }
 {
@@ -52,7 +52,7 @@ pub fn drop_to_again(todo: &mut Vec<Item>)
     }
 }
 
-// Whether `break` leads there.
+// Whether `break` leads to this.
 fn is_out(item: &Item) -> bool
     ensures { (following : List machine.Item)
         → jumps.broken_out (item_of item.now ∷ following)
@@ -61,7 +61,7 @@ fn is_out(item: &Item) -> bool
     matches!(item, Item::Out)
 }
 
-// Whether `continue` leads there.
+// Whether `continue` leads to this.
 fn is_again(item: &Item) -> bool
     ensures { (following : List machine.Item)
         → jumps.continued (item_of item.now ∷ following)
@@ -70,7 +70,7 @@ fn is_again(item: &Item) -> bool
     matches!(item, Item::Statement(StmtStep::Again, _, _))
 }
 
-/// Puts statements in their order, the first counted point of which has a number, before what is to be done.
+/// Puts consecutive statements, the first counted point of which has a number, before the other things to do.
 pub fn put_statements<'a>(
     todo: &mut Vec<Item<'a>>,
     statements: &'a [Stmt],

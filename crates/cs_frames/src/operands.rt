@@ -1,4 +1,4 @@
-//! Operands that are taken from a frame's stack.
+//! Operands popped from a frame's stack.
 ghost use Rattle.std.specs.Prelude.{◌≡◌, IfOk, map};
 ghost use Rattle.cs_meaning.specs.Machine as machine;
 ghost use Rattle.cs_values.specs.View.{operand_of};
@@ -8,7 +8,7 @@ use cs_run_state::machine::Machine;
 use cs_values::Operand;
 use std::alloc::AllocError;
 
-/// Takes so many of the newest operands, the oldest of them first.
+/// Pops the `count` newest operands, and returns the oldest of them first.
 #[tactic(auto, using(crate::proofs::Stacks::stacks), unfolding(cs_run_state::specs::MachineView::state_of))]
 pub fn pop_newest(state: &mut Machine, count: usize) -> Result<Vec<Operand>, AllocError>
     ensures operands { IfOk result (λ taken.

@@ -1,4 +1,4 @@
-//! What a call of a function without a body does to memory: its result, and what it writes through its arguments.
+//! Effects of a call of a function without a body on memory: its result, and its writes through arguments.
 ghost use Rattle.std.specs.Prelude.{◌≡◌, OnOk, IfErr, IfOk, map};
 ghost use Rattle.cs_ast.specs.TypedProgram.{typed_program};
 ghost use Rattle.cs_meaning.specs.Calls as calls;
@@ -27,8 +27,8 @@ use cs_values::paths::root_path;
 use cs_values::{Cell, Object, Operand};
 use std::alloc::AllocError;
 
-/// The result of a call of a function without a body, by the type that it gives: it is looked up, but nothing is where the type is
-/// void.
+/// Returns the result of a call of a function without a body, by its return type: it is looked up, except if the type is
+/// `void`.
 pub fn outside_result<'a>(
     memory: &mut Memory<'a>,
     log: &mut Log,
@@ -54,7 +54,7 @@ pub fn outside_result<'a>(
     }
 }
 
-// Whether a function that gives a type gives nothing.
+// Whether a function with this return type returns nothing.
 fn gives_nothing(returns: BlockType) -> bool
     ensures { result ≡ is_nothing (type_of returns.entry) }
 {
@@ -70,7 +70,7 @@ fn gives_nothing(returns: BlockType) -> bool
     }
 }
 
-// The result of such a call that isn't void.
+// Looks up the result of such a call if its type isn't `void`.
 fn received<'a>(
     memory: &mut Memory<'a>,
     log: &mut Log,
@@ -153,7 +153,7 @@ fn write_argument<'a>(
     }
 }
 
-// What such a call does to the object that an argument names: it shows whether there is one, and writes all of it.
+// Shows whether an argument of such a call points to an object, and writes all of it.
 fn write_through<'a>(
     memory: &mut Memory<'a>,
     log: &mut Log,
@@ -187,7 +187,7 @@ fn write_through<'a>(
     }
 }
 
-// An object as such a function leaves it: its scalars are inputs below a path, if it may be written.
+// Makes all scalars of an object inputs below a path, if the function may write it.
 fn overwrite(
     memory: &mut Memory,
     program: &Program,
@@ -210,7 +210,7 @@ fn overwrite(
     }
 }
 
-// Whether what a block holds may be written by a function without a body.
+// Whether a function without a body may write an object with this standing.
 fn is_writable(program: &Program, object: &Object, standing: Standing) -> bool
     ensures { result ≡ calls.is_writable (typed_program program.now) (object_of object.now)
         standing }

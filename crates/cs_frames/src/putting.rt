@@ -1,4 +1,4 @@
-//! Statements that are put before what is to be done.
+//! Schedules statements before the other things to do.
 ghost use Rattle.std.specs.Prelude.{◌≡◌, ◌∷◌, OnOk};
 ghost use Rattle.cs_ast.specs.TypedView.{typed, statement, statement_list};
 ghost use Rattle.cs_meaning.specs.Jumps as jumps;
@@ -12,7 +12,7 @@ use cs_run_state::items::{ExprStep, Item, StmtStep};
 use cs_run_state::machine::Machine;
 use std::alloc::AllocError;
 
-/// Puts a step of a statement, the first counted point of which has a number, before what is to be done.
+/// Puts a step of a statement, the first counted point of which has a number, before the other things to do.
 pub fn put_stmt<'a>(
     state: &mut Machine<'a>,
     step: StmtStep,
@@ -27,7 +27,7 @@ pub fn put_stmt<'a>(
     Ok(())
 }
 
-/// Puts statements in their order before what is to be done.
+/// Puts consecutive statements before the other things to do.
 #[tactic(auto, unfolding(cs_run_state::specs::MachineView::state_of))]
 pub fn put_all<'a>(
     state: &mut Machine<'a>,
@@ -42,7 +42,7 @@ pub fn put_all<'a>(
     Ok(())
 }
 
-/// A test, or the value of a `switch`, is evaluated, and then decides.
+/// Schedules the evaluation of a test, or of the value of a `switch`, and the branch that it selects.
 pub fn put_test<'a>(
     state: &mut Machine<'a>,
     test: &'a Expr,
@@ -59,7 +59,7 @@ pub fn put_test<'a>(
     Ok(())
 }
 
-/// A loop turns, and after it is where `break` leads.
+/// Schedules the head of a loop, and after the loop the mark to which `break` leads.
 pub fn put_loop<'a>(
     state: &mut Machine<'a>,
     s: &'a Stmt,
@@ -74,7 +74,7 @@ pub fn put_loop<'a>(
     Ok(())
 }
 
-/// The body of a loop is executed, and then what comes after it.
+/// Schedules the body of a loop, and the step after it.
 pub fn put_body<'a>(
     state: &mut Machine<'a>,
     s: &'a Stmt,

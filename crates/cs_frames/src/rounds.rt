@@ -1,4 +1,4 @@
-//! What comes after the body of a loop (C11 6.8.5), and where counted points of loops are.
+//! The step after the body of a loop (C11 6.8.5), and the numbers of counted points in loops.
 ghost use Rattle.std.specs.Prelude.{◌≡◌, ◌+◌, OnOk, IfOk, option_map, option_copied};
 ghost use Rattle.cs_ast.specs.TypedView.{typed, statement, statement_list};
 ghost use Rattle.cs_meaning.specs.Machine as machine;
@@ -14,7 +14,7 @@ use cs_run_state::items::{ExprStep, Item, StmtStep};
 use cs_run_state::machine::Machine;
 use std::alloc::AllocError;
 
-/// What comes after the body of a loop.
+/// Schedules the things to do after the body of a loop.
 pub fn go_again<'a>(
     state: &mut Machine<'a>,
     s: &'a Stmt,
@@ -38,7 +38,7 @@ pub fn go_again<'a>(
     }
 }
 
-// The last part of a `for`, whose value is dropped.
+// Schedules the last part of a `for`, whose value is dropped.
 fn put_last<'a>(state: &mut Machine<'a>, last: Option<&'a Expr>) -> Result<(), AllocError>
     ensures { OnOk result (state_of state.new
         ≡ machine.to_do (meaning.last_part (option_map typed (option_copied last.entry))
@@ -54,7 +54,7 @@ fn put_last<'a>(state: &mut Machine<'a>, last: Option<&'a Expr>) -> Result<(), A
     }
 }
 
-/// The number of the first counted point of a `for`'s body, which follows its head and its first part.
+/// Returns the number of the first counted point of a `for`'s body, which follows its head and its first part.
 pub fn point_of_body(counted_point: u64, first: &[Stmt]) -> Result<u64, AllocError>
     ensures { IfOk result (λ inner.
         inner ≡ counted_point + 1 + points.counted_points_in (statement_list first.now)) }

@@ -21,7 +21,7 @@ use cs_values::Operand;
 use cs_values::paths::root_path;
 use std::alloc::{AllocError, Global};
 
-/// The machine in the first frame of an entry, whose parameters hold the values of their paths.
+/// Returns the machine in the first frame of an entry, whose parameters hold the values of their paths.
 pub fn start<'a>(
     alloc: Global,
     setting: &Setting<'a>,
@@ -38,7 +38,7 @@ pub fn start<'a>(
     }
 }
 
-// The machine in the first frame of a function.
+// Returns the machine in the first frame of a function.
 fn start_function<'a>(
     alloc: Global,
     setting: &Setting<'a>,
@@ -64,7 +64,7 @@ fn start_function<'a>(
     })
 }
 
-// The machine in the first frame of a function that isn't there.
+// Returns the machine in the first frame of a function that doesn't exist.
 fn start_nowhere<'a>(
     alloc: Global,
     setting: &Setting<'a>,
@@ -86,7 +86,7 @@ fn start_nowhere<'a>(
     })
 }
 
-// The parameters of a function.
+// Returns the parameters of a function.
 #[tactic(auto, using(crate::proofs::Stacks::takes))]
 fn parameters_of(function: &Function) -> &[Local]
     ensures { map variable result.now ≡ steps.parameters_of (routine function.now) }
@@ -99,7 +99,7 @@ fn parameters_of(function: &Function) -> &[Local]
     }
 }
 
-// What the parameters of an entry receive; the blocks that come with them are there from now on.
+// Returns the initial values of an entry's parameters, and adds their start blocks.
 fn received<'a>(
     alloc: Global,
     setting: &Setting<'a>,

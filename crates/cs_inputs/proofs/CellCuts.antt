@@ -1,4 +1,4 @@
--- The cells that a text begins with, one after the other, and that there is one list of them: for `first_cell` and
+-- The cells that a text begins with, one after the other, and that they are unique: for `first_cell` and
 -- `cells_of`.
 use Rattle.std.proofs.Common.{◌≡◌, ℕ, ◌<◌, ◌^◌, true, not, List, [], ◌∷◌, ◌++◌, length, drop, ap, sym, ◌∙◌, refl, append_assoc}
 use Rattle.std.proofs.Common.{arith}

@@ -1,4 +1,4 @@
--- Which texts are the decimal text of a number of 64 bits, and of which: for `value_of` and `number_with_text`.
+-- Which texts are the decimal text of a 64-bit number, and of which: for `value_of` and `number_with_text`.
 use Rattle.std.proofs.Common.{◌≡◌, ℕ, ◌<◌, ◌^◌, zero, suc, Bool, true, false, not, ◌&&◌, ◌||◌, eqb-true, List, [], ◌∷◌, length}
 use Rattle.std.proofs.Common.{get_or, Option, Some, None, Result, Ok, Err, ap, sym, ◌∙◌, refl, subst, arith, rules}
 use Rattle.std.specs.Prelude.{◌==◌, SomeIff}

@@ -1,4 +1,4 @@
--- What a text is read as, and that it is read in one way: for `parse`.
+-- The input that a text is parsed to, and that it is unique: for `parse`.
 use Rattle.std.proofs.Common.{◌≡◌, ℕ, List, [], ◌∷◌, ◌++◌, length, drop, ap, sym, ◌∙◌, refl, subst, append_assoc, inl, inr, arith}
 use Rattle.std.specs.Prelude.{◌⊎◌, ℤ, Result, Ok, Err, IfErr, IsErrAnd, codes}
 use Rattle.std.specs.Fmt.{signed_decimal}

@@ -1,4 +1,4 @@
--- The number that a text spells, and that there is one: for `number_of` and `parse`.
+-- The number that a text represents, and that it is unique: for `number_of` and `parse`.
 use Rattle.std.proofs.Common.{◌≡◌, ℕ, ◌<◌, ◌^◌, suc, true, List, ◌∷◌, ◌++◌, drop, ap, sym, ◌∙◌, refl, subst, arith, inl, inr}
 use Rattle.std.proofs.Common.{lit<}
 use Rattle.std.specs.Int.{w128}

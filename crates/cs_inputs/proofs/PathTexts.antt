@@ -1,4 +1,4 @@
--- The path of a text, and that there is one: for `path_of` and `parse`.
+-- The path of a text, and that it is unique: for `path_of` and `parse`.
 use Rattle.std.proofs.Common.{◌≡◌, ℕ, ◌<◌, ◌^◌, Bool, true, not, ◌&&◌, ◌||◌, List, [], ◌∷◌, ◌++◌, ap, sym, ◌∙◌, refl}
 use Rattle.std.proofs.Common.{subst}
 use Rattle.std.specs.Prelude.{◌==◌, Result, Ok, Err, IsErrAnd}

@@ -1,4 +1,4 @@
--- The root of a text, by the text's first bytes, and that there is one: for `root_of` and its parts.
+-- The root of a text, by the text's first bytes, and that it is unique: for `root_of` and its parts.
 use Rattle.std.proofs.Common.{◌≡◌, ℕ, ◌<◌, ◌≤◌, ◌^◌, Bool, true, false, not, ◌&&◌, ◌||◌, eqb, eq-eqb, List, [], ◌∷◌}
 use Rattle.std.proofs.Common.{◌++◌, length, drop, get_or, ap, sym, ◌∙◌, refl, subst, append_assoc, arith, inl, inr}
 use Rattle.std.specs.Prelude.{◌==◌, ◌⊎◌, codes, nat_le}

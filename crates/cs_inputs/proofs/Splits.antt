@@ -1,4 +1,4 @@
--- A text is cut before its first separator in one way: for `split_before` and all that reads parts of a text.
+-- A text is split before its first separator in only one way: for `split_before` and all that parses parts of a text.
 use Rattle.std.proofs.Common.{◌≡◌, ℕ, ◌+◌, ◌<◌, Bool, true, false, not, ◌&&◌, eqb, eqb-true, List, [], ◌∷◌, ◌++◌, length, take}
 use Rattle.std.proofs.Common.{drop, get_or, ap, sym, ◌∙◌, refl, arith}
 use Rattle.std.specs.Prelude.{◌==◌}

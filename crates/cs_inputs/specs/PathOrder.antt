@@ -8,7 +8,7 @@ use Rattle.cs_inputs.specs.declared.path.Root.{Root}
 use Rattle.cs_inputs.specs.declared.path.Root.TheVariants.{Param, Global, Call, Wrote, Malloc}
 use Rattle.cs_inputs.specs.declared.path.Path.{Path}
 
--- the place of a root's kind among the kinds
+-- the index of a root's kind in the order of kinds
 abbrev pub kind_of : Root → ℕ
 kind_of (Param name) = 0
 kind_of (Global name) = 1
@@ -16,7 +16,7 @@ kind_of (Call call) = 2
 kind_of (Wrote call argument) = 3
 kind_of (Malloc number) = 4
 
--- roots of one kind by their names or numbers, others by their kinds
+-- roots of the same kind are ordered by their names or numbers, others by their kinds
 abbrev pub root_order : Root → Root → Ordering
 root_order (Param left) (Param right) = slice_cmp nat_cmp left right
 root_order (Global left) (Global right) = slice_cmp nat_cmp left right
@@ -25,6 +25,6 @@ root_order (Wrote left first) (Wrote right second) = ordering_then (nat_cmp left
 root_order (Malloc left) (Malloc right) = nat_cmp left right
 root_order left right = nat_cmp (kind_of left) (kind_of right)
 
--- paths by their roots, then by their cells
+-- paths are ordered by their roots, then by their cells
 abbrev pub path_order : Path → Path → Ordering
 path_order left right = ordering_then (root_order left.root right.root) (slice_cmp nat_cmp left.cells right.cells)

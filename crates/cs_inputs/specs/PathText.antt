@@ -15,7 +15,7 @@ root_text (Call call) = codes "call#" ++ decimal call
 root_text (Wrote call argument) = codes "call#" ++ decimal call ++ codes "." ++ decimal argument
 root_text (Malloc number) = codes "malloc#" ++ decimal number
 
--- the text of cells: an `@` and the offset for each
+-- the text of cells: an `@` and the offset, for each
 abbrev pub cells_text : List ℕ → List ℕ
 cells_text [] = []
 cells_text (offset ∷ offsets) = codes "@" ++ decimal offset ++ cells_text offsets
@@ -32,17 +32,17 @@ is_name_start b = (nat_le 65 b && nat_le b 90) || (nat_le 97 b && nat_le b 122) 
 abbrev pub is_name_byte : ℕ → Bool
 is_name_byte b = is_name_start b || (nat_le 48 b && nat_le b 57)
 
--- a name of C (C11 6.4.2.1)
+-- an identifier of C (C11 6.4.2.1)
 abbrev pub is_name : List ℕ → Bool
 is_name [] = false
 is_name (b ∷ bs) = is_name_start b && list_all is_name_byte bs
 
--- a number from 1 of 64 bits
+-- a 64-bit number from 1
 pub record IsCount (number : ℕ) : Type 0 where
   pub from_one : 1 ≤ number
   pub fits : number < 2 ^ 64
 
--- the roots that have a text
+-- the roots with a text
 abbrev pub HasRootText : Root → Type 0
 HasRootText (Param name) = IsTrue (is_name name)
 HasRootText (Global name) = IsTrue (is_name name)
@@ -50,7 +50,7 @@ HasRootText (Call call) = IsCount call
 HasRootText (Wrote call argument) = IsCount call × (argument ≤ 400000)
 HasRootText (Malloc number) = IsCount number
 
--- a global and what a call wrote have cells, an allocation has none
+-- the path of a global, or of what a call wrote, has cells; that of an allocation has none
 abbrev pub TakesCells : Root → List ℕ → Type 0
 TakesCells (Param name) cells = Unit {0}
 TakesCells (Global name) cells = 0 < length cells
@@ -58,7 +58,7 @@ TakesCells (Call call) cells = Unit {0}
 TakesCells (Wrote call argument) cells = 0 < length cells
 TakesCells (Malloc number) cells = cells ≡ []
 
--- the paths that have a text
+-- the paths with a text
 pub record HasText (path : Path) : Type 0 where
   pub root : HasRootText path.root
   pub takes : TakesCells path.root path.cells

@@ -1,4 +1,4 @@
--- What the readers of parts of an input's text give: the contracts of `parse`'s own functions cite it.
+-- What the functions that parse parts of an input's text return: the contracts of `parse`'s own functions cite it.
 use Rattle.std.specs.Prelude.{◌≡◌, ℕ, ◌<◌, ◌≤◌, ◌^◌, ℤ, Bool, false, ◌||◌, ◌==◌, not, IsTrue, List, [], ◌∷◌, ◌++◌}
 use Rattle.std.specs.Prelude.{Option, Result, Ok, Err, MatchOption, codes, length}
 use Rattle.std.specs.List.{All, list_all}
@@ -15,17 +15,17 @@ abbrev pub IsEmptyOrAt : ℕ → List ℕ → Type 0
 IsEmptyOrAt separator [] = Unit {0}
 IsEmptyOrAt separator (b ∷ bs) = b ≡ separator
 
--- a text in two, before its first separator; the second part is empty where there is none
+-- a text split before its first separator; the second part is empty if there is none
 pub record SplitsBefore (separator : ℕ) (text before following : List ℕ) : Type 0 where
   pub whole : text ≡ before ++ following
   pub none : IsTrue (list_all (λ b. not (b == separator)) before)
   pub at : IsEmptyOrAt separator following
 
--- a thing of the kind is found, or there is none
+-- the result satisfies a predicate, or nothing does
 abbrev pub Finds : {X : Type 0} → (X → Type 0) → Option X → Type 0
 Finds P found = MatchOption found ((x : _) → P x → ⊥) P
 
--- a thing of the kind is read; or there is none, and the path is bad; or there was no memory for it
+-- the result satisfies a predicate; or nothing does, and the path is bad; or memory ran out
 abbrev pub Reads : {X : Type 0} → (X → Type 0) → Result X PathRefusal → Type 0
 Reads P (Ok x) = P x
 Reads P (Err BadPath) = (x : _) → P x → ⊥
@@ -33,12 +33,12 @@ Reads P (Err BadNumber) = ⊥
 Reads P (Err TooWide) = ⊥
 Reads P (Err Memory) = Unit {0}
 
--- whether bytes begin with no zero, or are one byte
+-- whether there are bytes, and the first isn't `0` unless it is the only one
 abbrev pub has_no_leading_zero : List ℕ → Bool
 has_no_leading_zero [] = false
 has_no_leading_zero (b ∷ bs) = not (b == 48) || (length bs == 0)
 
--- a number of 64 bits with its text
+-- a 64-bit number and its text
 pub record IsDecimalOf (text : List ℕ) (number : ℕ) : Type 0 where
   pub fits : number < 2 ^ 64
   pub is : decimal number ≡ text
@@ -53,13 +53,13 @@ pub record AreCellsOf (text : List ℕ) (cells : List ℕ) : Type 0 where
   pub fit : All (λ offset. offset < 2 ^ 64) cells
   pub is : cells_text cells ≡ text
 
--- a text begins with a cell
+-- a text begins with the text of a cell
 pub record BeginsWithCell (text : List ℕ) (offset : ℕ) (following : List ℕ) : Type 0 where
   pub fits : offset < 2 ^ 64
   pub whole : text ≡ codes "@" ++ decimal offset ++ following
   pub at : IsEmptyOrAt 64 following
 
--- what a text says of a number, or why it says none
+-- the number that a text represents, or why it represents none
 abbrev pub IsNumberRead : List ℕ → Result ℤ PathRefusal → Type 0
 IsNumberRead text (Ok number) = SpellsNumber text number × IsInputNumber number
 IsNumberRead text (Err BadPath) = ⊥
@@ -67,7 +67,7 @@ IsNumberRead text (Err BadNumber) = (number : ℤ) → SpellsNumber text number 
 IsNumberRead text (Err TooWide) = (number : ℤ) × SpellsNumber text number × (IsInputNumber number → ⊥)
 IsNumberRead text (Err Memory) = ⊥
 
--- the value of digits, or why they have none of 64 bits
+-- the value of digits, or why they have no 64-bit value
 abbrev pub IsMagnitudeRead : List ℕ → Result ℕ PathRefusal → Type 0
 IsMagnitudeRead text (Ok magnitude) = AreDigits text × (magnitude ≡ digits_value 10 text) × (magnitude < 2 ^ 64)
 IsMagnitudeRead text (Err BadPath) = ⊥

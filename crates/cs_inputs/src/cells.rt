@@ -1,4 +1,4 @@
-//! The offsets that a path follows.
+//! The cells of a path: the offsets that it follows.
 ghost use Rattle.std.specs.Prelude.{◌≡◌, ◌++◌, [], ◌∷◌, nat_eq, OnOk, OnErr};
 ghost use Rattle.std.specs.Hash as fed;
 ghost use Rattle.std.specs.Cmp.{partial_equiv_from_equiv};
@@ -12,7 +12,7 @@ use std::cmp::Ordering;
 use std::hash::{Hash, Hasher};
 use std::marker::Model;
 
-/// Byte offsets, each in the block that the pointer at the one before names. A contract sees them as a list.
+/// Byte offsets, each in the block to which the pointer at the previous one points. A contract sees them as a list.
 ///
 /// They are ordered by the first offset that differs, a prefix first.
 #[derive(Debug, Drop)]
@@ -29,7 +29,7 @@ impl Model for Cells {
 }
 
 impl Cells {
-    /// No offsets.
+    /// Returns an empty list of offsets.
     pub fn new(alloc: Global) -> Cells
         ensures { result ≡ [] }
     {
@@ -38,7 +38,7 @@ impl Cells {
         }
     }
 
-    /// Adds an offset after the others.
+    /// Appends an offset.
     pub fn push(&mut self, offset: u64) -> Result<(), AllocError>
         ensures ok { OnOk result (self.new ≡ self.old ++ offset ∷ []) }
         ensures err { OnErr result (self.new ≡ self.old) }
@@ -47,7 +47,7 @@ impl Cells {
         Ok(())
     }
 
-    /// The offsets in order.
+    /// Returns the offsets in order.
     pub fn as_slice(&self) -> &[u64]
         ensures { result.now ≡ self.now }
     {

@@ -1,4 +1,4 @@
-//! Decimal digits and the numbers that they spell.
+//! Decimal digits and the numbers that they represent.
 ghost use Rattle.std.specs.Prelude.{◌≡◌, ◌<◌, ◌^◌, ◌&&◌, IsTrue, SomeIff, length};
 ghost use Rattle.std.specs.List.{list_all};
 ghost use Rattle.std.specs.Str.Parse.{digits_value};
@@ -15,7 +15,7 @@ pub fn are_digits(bytes: &[u8]) -> bool
     bytes.iter().all(|byte| matches!(*byte, b'0'..=b'9'))
 }
 
-/// The value of digits in base ten, where 64 bits hold it.
+/// Returns the value of digits in base ten, if it has at most 64 bits.
 pub fn value_of(digits: &[u8]) -> Option<u64>
     requires all { IsTrue (list_all is_digit digits.now) }
     requires some { 0 < length digits.now }
@@ -27,21 +27,21 @@ pub fn value_of(digits: &[u8]) -> Option<u64>
     }
 }
 
-/// The number of 64 bits whose text this is: digits of which the first is no zero, or one zero.
+/// Returns the 64-bit number with this text: digits without a leading zero, or one `0`.
 pub fn number_with_text(text: &[u8]) -> Option<u64>
     ensures { Finds (IsDecimalOf text.now) result }
 {
     if is_plain(text) { value_of(text) } else { None }
 }
 
-// Whether bytes are digits of which the first is no zero, or one digit.
+// Whether bytes are digits without a leading zero, or one digit.
 fn is_plain(bytes: &[u8]) -> bool
     ensures { result ≡ (list_all is_digit bytes.now && reading.has_no_leading_zero bytes.now) }
 {
     are_digits(bytes) && has_no_leading_zero(bytes)
 }
 
-// Whether bytes begin with no zero, or are one byte.
+// Whether there are bytes, and the first isn't `0` unless it is the only one.
 fn has_no_leading_zero(bytes: &[u8]) -> bool
     ensures { result ≡ reading.has_no_leading_zero bytes.now }
 {

@@ -1,4 +1,4 @@
-//! Inputs from their texts.
+//! Inputs, parsed from their texts.
 ghost use Rattle.std.specs.Prelude.{◌≡◌, ◌++◌, ◌⊎◌, ◌↔◌, ℕ, ℤ, List, codes, IsTrue, IfOk, IfErr, Ok, Err, MatchOption};
 ghost use Rattle.std.specs.Fmt.{signed_decimal};
 ghost use Rattle.cs_inputs.specs.declared.refusal.PathRefusal.TheVariants.{Memory};
@@ -15,11 +15,11 @@ use crate::root_text::root_of;
 use crate::split::split_before;
 use std::alloc::Global;
 
-/// The path and the number of a text `PATH=NUMBER`, as `p@8=-1`. A number is one to 39 digits, which may begin with
-/// zeros, after a `-` or not.
+/// Returns the path and the number of a text `PATH=NUMBER`, as `p@8=-1`. A number is an optional `-` and one to 39 digits, which may begin
+/// with zeros.
 ///
-/// It is `BadPath` where no path's text stands before the first `=` or there is no `=`, else `BadNumber` where no number
-/// stands after it, else `TooWide` where the number is outside -2^63 to 2^64-1.
+/// The error is `BadPath` if there is no `=` or the text before the first one isn't that of a path, else `BadNumber` if the rest isn't a
+/// number, else `TooWide` if the number is outside -2^63 to 2^64-1.
 pub fn parse(alloc: Global, text: &[u8]) -> Result<(Path, i128), PathRefusal>
     ensures ok { IfOk result (λ input. SpellsInput text.now input.0 input.1) }
     ensures accepts { (path : Path) (number : ℤ) → SpellsInput text.now path number
@@ -41,7 +41,7 @@ pub fn parse(alloc: Global, text: &[u8]) -> Result<(Path, i128), PathRefusal>
     Ok((path, number))
 }
 
-// The path that has a text. It is `BadPath` where none has it.
+// Returns the path with a text, or `BadPath` if there is none.
 fn path_of(alloc: Global, text: &[u8]) -> Result<Path, PathRefusal>
     ensures { Reads (IsTextOf text.now) result }
 {
@@ -54,8 +54,8 @@ fn path_of(alloc: Global, text: &[u8]) -> Result<Path, PathRefusal>
     Ok(Path { root, cells })
 }
 
-// Whether a path may go on from the root with these cells: a global and what a call wrote have cells, an allocation has
-// none.
+// Whether a path may consist of the root and these cells: the path of a global, or of what a call wrote, has cells; that of an
+// allocation has none.
 fn takes_cells(root: &Root, cells: &Cells) -> bool
     ensures { IsTrue result ↔ TakesCells root.now cells.now }
 {
@@ -66,7 +66,7 @@ fn takes_cells(root: &Root, cells: &Cells) -> bool
     }
 }
 
-// The cells that have a text. It is `BadPath` where none have it.
+// Returns the cells with a text, or `BadPath` if there are none.
 fn cells_of(alloc: Global, text: &[u8]) -> Result<Cells, PathRefusal>
     ensures { Reads (AreCellsOf text.now) result }
 {
@@ -82,7 +82,7 @@ fn cells_of(alloc: Global, text: &[u8]) -> Result<Cells, PathRefusal>
     Ok(cells)
 }
 
-// The offset of the cell that a text begins with, and what stands after it.
+// Returns the offset of the cell at the beginning of a text, and the rest of the text.
 fn first_cell(text: &[u8]) -> Option<(u64, &[u8])>
     ensures { MatchOption result ((offset : ℕ) (following : List ℕ)
         → BeginsWithCell text.now offset following

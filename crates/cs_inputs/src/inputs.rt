@@ -10,7 +10,7 @@ use std::alloc::{AllocError, Global};
 use std::marker::Model;
 
 /// A map from paths to numbers, in which a path that isn't set has the number 0. A contract sees it as the list of the
-/// paths that were set, with their numbers, in path order.
+/// set paths with their numbers, in path order.
 #[derive(Debug, Drop)]
 pub struct Inputs {
     // Sorted by path, since a run reads far more often than it sets.
@@ -30,7 +30,7 @@ impl Model for Inputs {
 }
 
 impl Inputs {
-    /// No path is set.
+    /// Returns a map in which no path is set.
     pub fn new(alloc: Global) -> Inputs
         ensures { result ≡ [] }
     {
@@ -39,7 +39,7 @@ impl Inputs {
         }
     }
 
-    /// The path's number, 0 where it isn't set.
+    /// Returns the path's number, 0 if it isn't set.
     pub fn get(&self, path: &Path) -> i128
         ensures { result ≡ number_at self.now path.now }
     {
@@ -49,7 +49,7 @@ impl Inputs {
         }
     }
 
-    /// Gives a path a number, in place of the one that it had.
+    /// Sets the number of a path, replacing the previous one.
     pub fn set(&mut self, path: Path, number: i128) -> Result<(), AllocError>
         ensures ok { OnOk result (self.new ≡ insert_entry path_order self.old path number) }
         ensures here { OnOk result (number_at self.new path ≡ number) }
@@ -60,7 +60,7 @@ impl Inputs {
         put(&mut self.entries, path, number)
     }
 
-    /// The paths that were set, with their numbers, in path order.
+    /// Returns the set paths with their numbers, in path order.
     pub fn list(&self) -> &[(Path, i128)]
         ensures value { result.now ≡ self.now }
         ensures in_order { IsInOrder self.now }
@@ -69,7 +69,7 @@ impl Inputs {
     }
 }
 
-// Gives a path a number among entries in path order.
+// Sets the number of a path in entries in path order.
 fn put(entries: &mut Vec<(Path, i128)>, path: Path, number: i128) -> Result<(), AllocError>
     requires { IsInOrder entries.old.items }
     ensures ok { OnOk result (entries.new.items
@@ -83,7 +83,7 @@ fn put(entries: &mut Vec<(Path, i128)>, path: Path, number: i128) -> Result<(), 
     Ok(())
 }
 
-// The place of a path among entries in path order, or the place where it belongs.
+// Returns the index of a path among entries in path order, or the index where it would be inserted.
 fn place(entries: &[(Path, i128)], path: &Path) -> Result<usize, usize>
     requires { IsInOrder entries.now }
     ensures within { IsSearchInRange result (length entries.now) }

@@ -4,15 +4,15 @@ ghost use Rattle.cs_inputs.specs.Reading.{IsMagnitudeRead, IsNumberRead};
 use crate::decimals::{are_digits, value_of};
 use crate::refusal::PathRefusal;
 
-/// The most digits of a number.
+/// The greatest number of digits of a number.
 const MOST_DIGITS: usize = 39;
 
-/// How far a number may be below zero.
+/// The greatest magnitude of a negative number.
 const MOST_BELOW_ZERO: u64 = 1 << 63;
 
-/// The number that a text spells: one to 39 digits, which may begin with zeros, after a `-` or not.
+/// Returns the number that a text represents: an optional `-` and one to 39 digits, which may begin with zeros.
 ///
-/// It is `BadNumber` where the text spells none, and `TooWide` where the number is outside -2^63 to 2^64-1.
+/// The error is `BadNumber` if the text isn't a number, and `TooWide` if the number is outside -2^63 to 2^64-1.
 pub fn number_of(text: &[u8]) -> Result<i128, PathRefusal>
     ensures { IsNumberRead text.now result }
 {
@@ -28,7 +28,7 @@ pub fn number_of(text: &[u8]) -> Result<i128, PathRefusal>
     }
 }
 
-// The value of one to 39 digits.
+// Returns the value of one to 39 digits.
 fn magnitude_of(digits: &[u8]) -> Result<u64, PathRefusal>
     ensures { IsMagnitudeRead digits.now result }
 {

@@ -7,7 +7,7 @@ use cs_names::Name;
 use std::alloc::AllocError;
 use std::cmp::Ordering;
 
-/// Where a path begins. Roots are ordered as they stand here, then by name or by numbers.
+/// The beginning of a path. Roots are ordered by kind, in the order of these variants, then by name or by numbers.
 #[derive(Clone, Debug, Drop, PartialEq, Eq, PartialOrd, Ord, Hash)]
 pub enum Root {
     /// A parameter of the entry.
@@ -18,11 +18,11 @@ pub enum Root {
     Call(u64),
     /// What such a call wrote through one of its arguments, by the argument's number from 0.
     Wrote(u64, u64),
-    /// Whether an allocation gives a block, by the allocation's number in the run from 1.
+    /// Whether an allocation returns a block, by the allocation's number in the run from 1.
     Malloc(u64),
 }
 
-/// A root and the cells that lead on from it. Paths are ordered by root, then by cells, a prefix first.
+/// A root and the cells that the path follows from it. Paths are ordered by root, then by cells, a prefix first.
 #[derive(Clone, Debug, Drop, PartialEq, Eq, PartialOrd, Ord, Hash)]
 pub struct Path {
     pub root: Root,
@@ -30,14 +30,14 @@ pub struct Path {
 }
 
 impl Path {
-    /// The same path once more.
+    /// Returns a copy of the path.
     pub fn copy(&self) -> Result<Path, AllocError>
         ensures { IfOk result (λ made. made ≡ self.now) }
     {
         self.clone()
     }
 
-    /// How two paths stand to each other in path order.
+    /// Compares two paths in path order.
     pub fn order(&self, other: &Path) -> Ordering
         ensures { result ≡ path_order self.now other.now }
     {

@@ -1,17 +1,17 @@
-//! Why a text is no input.
+//! Why a text isn't an input.
 ghost use Rattle.std.specs.Prelude.{◌≡◌};
 ghost use Rattle.cs_inputs.specs.declared.refusal.PathRefusal.TheVariants.{Memory};
 
 use std::alloc::{AllocError, AllocFailed};
 use thiserror::Error;
 
-/// Why a text is no input.
+/// Why a text isn't an input.
 #[derive(Clone, Copy, PartialEq, Eq, Debug, Error)]
 pub enum PathRefusal {
-    /// No path's text stands before the first `=`, or there is no `=`.
+    /// There is no `=`, or the text before the first one isn't that of a path.
     #[error("not a path")]
     BadPath,
-    /// What stands after the first `=` is no number.
+    /// The text after the first `=` isn't a number.
     #[error("not a number")]
     BadNumber,
     /// The number is outside -2^63 to 2^64-1.

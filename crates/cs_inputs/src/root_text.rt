@@ -1,4 +1,4 @@
-//! Roots of paths, from their texts.
+//! Roots of paths, parsed from their texts.
 ghost use Rattle.std.specs.Prelude.{◌≡◌, ◌++◌, ◌≤◌, codes, IsTrue};
 ghost use Rattle.std.specs.List.{list_all};
 ghost use Rattle.cs_inputs.specs.PathText as spelling;
@@ -15,7 +15,7 @@ use std::alloc::Global;
 /// The greatest number of an argument.
 const LAST_ARGUMENT: u64 = 400_000;
 
-/// The root that has a text. It is `BadPath` where none has it.
+/// Returns the root with a text, or `BadPath` if there is none.
 pub fn root_of(alloc: Global, text: &[u8]) -> Result<Root, PathRefusal>
     ensures { Reads (IsRootOf text.now) result }
 {
@@ -31,7 +31,7 @@ pub fn root_of(alloc: Global, text: &[u8]) -> Result<Root, PathRefusal>
     Ok(Root::Param(name_of(alloc, text)?))
 }
 
-// The name that has this text.
+// Returns the name with this text.
 fn name_of(alloc: Global, text: &[u8]) -> Result<Name, PathRefusal>
     ensures { Reads (λ name. IsTrue (spelling.is_name name) × (name ≡ text.now)) result }
 {
@@ -41,7 +41,7 @@ fn name_of(alloc: Global, text: &[u8]) -> Result<Name, PathRefusal>
     Ok(Name::from_slice(alloc, text)?)
 }
 
-// The result of a call, or what a call wrote, from the text after `call#`.
+// Returns the result of a call, or what a call wrote, from the text after `call#`.
 fn call_of(numbers: &[u8]) -> Option<Root>
     ensures { Finds (IsRootOf (codes "call#" ++ numbers.now)) result }
 {
@@ -53,14 +53,14 @@ fn call_of(numbers: &[u8]) -> Option<Root>
     }
 }
 
-// An allocation from the text after `malloc#`.
+// Returns an allocation from the text after `malloc#`.
 fn malloc_of(number: &[u8]) -> Option<Root>
     ensures { Finds (IsRootOf (codes "malloc#" ++ number.now)) result }
 {
     Some(Root::Malloc(count_of(number)?))
 }
 
-// The number from 1 that has this text.
+// Returns the number, from 1, with this text.
 fn count_of(text: &[u8]) -> Option<u64>
     ensures { Finds (λ number. IsDecimalOf text.now number × IsCount number) result }
 {
@@ -68,7 +68,7 @@ fn count_of(text: &[u8]) -> Option<u64>
     if number == 0 { None } else { Some(number) }
 }
 
-// The number of an argument that has this text.
+// Returns the number of an argument with this text.
 fn argument_of(text: &[u8]) -> Option<u64>
     ensures { Finds (λ number. IsDecimalOf text.now number × (number ≤ 400000)) result }
 {
@@ -80,7 +80,7 @@ fn argument_of(text: &[u8]) -> Option<u64>
     }
 }
 
-// Whether bytes are a name of C (C11 6.4.2.1).
+// Whether bytes are an identifier of C (C11 6.4.2.1).
 fn is_name(bytes: &[u8]) -> bool
     ensures { result ≡ spelling.is_name bytes.now }
 {

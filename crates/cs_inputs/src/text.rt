@@ -8,7 +8,7 @@ use cs_names::Bytes;
 use itoa::Buffer;
 use std::alloc::{AllocError, Global};
 
-/// The text of a path, as `p@8`, `$g@0`, `call#1@4`, `call#1.0@0` or `malloc#2`.
+/// Returns the text of a path, as `p@8`, `$g@0`, `call#1@4`, `call#1.0@0` or `malloc#2`.
 pub fn print(alloc: Global, path: &Path) -> Result<Bytes, AllocError>
     ensures { IfOk result (λ text. text ≡ path_text path.now) }
 {
@@ -17,7 +17,7 @@ pub fn print(alloc: Global, path: &Path) -> Result<Bytes, AllocError>
     Ok(Bytes::from_vec(text))
 }
 
-// The text of a root.
+// Returns the text of a root.
 fn print_root(alloc: Global, root: &Root) -> Result<Vec<u8>, AllocError>
     ensures { IfOk result (λ text. text.items ≡ root_text root.now) }
 {
@@ -39,7 +39,7 @@ fn print_root(alloc: Global, root: &Root) -> Result<Vec<u8>, AllocError>
     }
 }
 
-// A word with a number after it.
+// Returns a word followed by a number.
 fn numbered(alloc: Global, word: &[u8], number: u64) -> Result<Vec<u8>, AllocError>
     ensures { IfOk result (λ text. text.items ≡ word.now ++ decimal number) }
 {
@@ -48,7 +48,7 @@ fn numbered(alloc: Global, word: &[u8], number: u64) -> Result<Vec<u8>, AllocErr
     Ok(text)
 }
 
-// Adds the text of a path's cells.
+// Appends the text of a path's cells.
 fn print_cells(text: &mut Vec<u8>, cells: &[u64]) -> Result<(), AllocError>
     ensures { IfOk result (λ _. text.new.items ≡ text.old.items ++ cells_text cells.now) }
 {

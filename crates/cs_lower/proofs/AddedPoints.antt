@@ -1,4 +1,4 @@
--- What is brought in by code that is put together: for the control points of what is built.
+-- The control points that composed code adds: for the control points of what is built.
 use Rattle.std.proofs.Common.{ℕ, List, [], ◌∷◌, ◌++◌, Option, refl}
 use Rattle.cs_ast.specs.declared.place.Place.{Place}
 use Rattle.cs_ast.specs.TypedTree.{Typed, Statement, Statements, IfElse, For}

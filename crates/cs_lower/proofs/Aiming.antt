@@ -1,4 +1,4 @@
--- Where `break`, `continue` and `goto` lead, inside loops too: for the control points of statements.
+-- The targets of `break`, `continue` and `goto`, inside loops too: for the control points of statements.
 use Rattle.cs_ast.specs.TypedProgram.{TypedProgram, Routine}
 use Rattle.cs_cfg.specs.ControlPoints.{Next, Targets, in_loop, in_switch}
 use Rattle.cs_cfg.specs.Graph.{Point, Flow}

@@ -1,4 +1,4 @@
--- What was built and what more is: for the contracts of `GraphBuilder`, and for every lemma on what is built one after another.
+-- What was built, and what extends it: for the contracts of `GraphBuilder`, and for every lemma on what is built in several steps.
 use Rattle.std.proofs.Common.{◌≡◌, ℕ, zero, suc, ◌+◌, List, [], ◌∷◌, ◌++◌, length, map, reverse, Option, Some, refl, sym, ap, subst}
 use Rattle.std.proofs.Common.{◌∙◌, arith}
 use Rattle.std.specs.Prelude.{Contains, slice_get, unwrap_or}

@@ -1,4 +1,4 @@
--- What is built of declarations: for the contracts of the functions in `initializers`.
+-- The code of declarations: for the contracts of the functions in `initializers`.
 use Rattle.std.proofs.Common.{◌≡◌, Bool, ℕ, suc, ◌+◌, ◌-◌, ◌≤◌, List, [], ◌∷◌, ◌++◌, append-nil, length, drop, get_or}
 use Rattle.std.proofs.Common.{drop-cons, map, Some, None, refl, sym, ap, subst, ◌∙◌, arith}
 use Rattle.cs_types.specs.Shape.{Shape}

@@ -1,4 +1,4 @@
--- What is built of expressions, one after another: for the contracts of the functions that `lower_expression` calls.
+-- The code of consecutive expressions: for the contracts of the functions that `lower_expression` calls.
 use Rattle.std.proofs.Common.{◌≡◌, ℕ, ℤ, suc, ◌+◌, ◌-◌, ◌≤◌, pos, List, ◌∷◌, length, drop, get_or, drop-cons, refl, sym, ap}
 use Rattle.std.proofs.Common.{subst}
 use Rattle.std.proofs.Common.{◌∙◌, arith}

@@ -1,4 +1,4 @@
--- What is built of statements, one after another: for the contracts of `lower_statement` and of those that it calls.
+-- The code of consecutive statements: for the contracts of `lower_statement` and of those that it calls.
 use Rattle.std.proofs.Common.{◌≡◌, ℕ, suc, ◌+◌, ◌-◌, ◌≤◌, List, [], ◌∷◌, length, drop, get_or, drop-cons, Option, Some, None, refl}
 use Rattle.std.proofs.Common.{sym, ap, subst, ◌∙◌, arith}
 use Rattle.std.specs.Prelude.{option_map, unwrap_or}

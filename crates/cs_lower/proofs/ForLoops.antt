@@ -1,4 +1,4 @@
--- What is built of a `for`: for the contract of `lower_for`.
+-- The code of a `for`: for the contract of `lower_for`.
 use Rattle.std.proofs.Common.{◌≡◌, ℕ, suc, ◌+◌, ◌∷◌, ◌++◌, length, Option, refl, subst, arith}
 use Rattle.cs_ast.specs.declared.place.Place.{Place}
 use Rattle.cs_ast.specs.TypedTree.{Typed, Statement, For, Statements}

@@ -1,4 +1,4 @@
--- What is built of an expression, by its form: for the contract of `lower_expression`.
+-- The code of an expression, by its form: for the contract of `lower_expression`.
 use Rattle.std.proofs.Common.{◌≡◌, ℕ, suc, ◌+◌, ◌++◌, List, [], ◌∷◌, Option, Some, None, refl, sym, ap, subst}
 use Rattle.std.specs.Prelude.{Result, Ok, Err, IfOk}
 use Rattle.cs_types.specs.declared.int_type.IntType.{IntType}

@@ -1,4 +1,4 @@
--- Code of integers, one piece after another: for the integers of what is built.
+-- Integer code, one piece after another: for the integers of what is built.
 use Rattle.std.proofs.Common.{◌≡◌, ℕ, List, [], ◌∷◌, Option, Some, None, refl, sym, subst}
 use Rattle.std.specs.Prelude.{All, Contains}
 use Rattle.std.specs.Option.{IfSome}

@@ -1,4 +1,4 @@
--- Code to which nothing leads: for the contract of `keep`, and for every statement that leads off.
+-- Unreachable code: for the contract of `keep`, and for every statement that jumps.
 use Rattle.std.proofs.Common.{◌≡◌, ℕ, sym, subst}
 use Rattle.cs_ast.specs.TypedProgram.{TypedProgram}
 use Rattle.cs_cfg.specs.Graph.{Point, Flow, block_of}

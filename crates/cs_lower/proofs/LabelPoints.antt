@@ -1,4 +1,4 @@
--- The counted point of a label doesn't depend on what is to be done after the statement: for the contract of `add_labels`.
+-- The counted point of a label doesn't depend on what is to do after the statement: for the contract of `add_labels`.
 use Rattle.std.proofs.Common.{◌≡◌, ℕ, suc, ◌+◌, ◌≤◌, ◌==◌, Bool, true, false, List, [], ◌∷◌, length, drop, get_or, drop-cons}
 use Rattle.std.proofs.Common.{Option, Some, None, refl, sym, ap, ◌∙◌, arith}
 use Rattle.std.specs.Prelude.{Result, Ok, Err, OnOk, option_map, if◌then◌else◌}

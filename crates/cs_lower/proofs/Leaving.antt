@@ -1,4 +1,4 @@
--- What is built of statements that lead off, as `break`: for the contracts of `lower_goto` and `lower_statement`.
+-- The code of statements that jump, as `break`: for the contracts of `lower_goto` and `lower_statement`.
 use Rattle.std.proofs.Common.{◌≡◌, ℕ, [], ◌∷◌, Option, Some, None, sym, subst}
 use Rattle.std.specs.Prelude.{option_map, unwrap_or}
 use Rattle.cs_ast.specs.declared.place.Place.{Place}

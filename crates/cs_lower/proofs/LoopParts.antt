@@ -1,4 +1,4 @@
--- What is built of the test of a `for` and of its last part, either of which is optional, and of a `return`: for the contracts of
+-- The code of the test of a `for` and of its last part, either of which is optional, and of a `return`: for the contracts of
 -- `lower_for_test`, `lower_last` and `lower_return`.
 use Rattle.std.proofs.Common.{◌≡◌, ℕ, List, ◌∷◌, Option, Some, None, refl, sym, subst}
 use Rattle.cs_ast.specs.declared.place.Place.{Place}

@@ -1,4 +1,4 @@
--- What is built of a `switch`: for the contracts of `lower_entries`, of the functions in `switches`, and of a `switch` in
+-- The code of a `switch`: for the contracts of `lower_entries`, of the functions in `switches`, and of a `switch` in
 -- `lower_statement`.
 use Rattle.std.proofs.Common.{◌≡◌, ℕ, zero, suc, ◌+◌, ◌-◌, ◌≤◌, ℤ, List, [], ◌∷◌, ◌++◌, length, drop, get_or, drop-cons}
 use Rattle.std.proofs.Common.{Option, Some, None, refl, sym, ap, subst, ◌∙◌, arith}

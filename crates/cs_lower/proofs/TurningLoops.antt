@@ -1,4 +1,4 @@
--- What is built of loops that have a test: for the contracts of `lower_while` and `lower_do`.
+-- The code of loops that have a test: for the contracts of `lower_while` and `lower_do`.
 use Rattle.std.proofs.Common.{◌≡◌, ℕ, suc, ◌+◌, length, refl, sym, subst, arith}
 use Rattle.cs_ast.specs.declared.place.Place.{Place}
 use Rattle.cs_ast.specs.TypedTree.{Typed, Statement, While, Do}

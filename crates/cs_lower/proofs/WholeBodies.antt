@@ -1,4 +1,4 @@
--- What is built of a function, and of all functions: for the contracts of `lower_whole`, `lower_body`, `lower_function` and `lower`.
+-- The code of a function, and of all functions: for the contracts of `lower_whole`, `lower_body`, `lower_function` and `lower`.
 use Rattle.std.specs.Prelude.{slice_get, unwrap_or, option_map, Contains}
 use Rattle.std.specs.List.{All}
 use Rattle.std.specs.Option.{IfSome}

@@ -1,5 +1,5 @@
--- Each allocation has the arguments that its function takes (C11 7.22.3.2, 7.22.3.4): a recursion over the syntax. The typing of a
--- program sees to it.
+-- Each allocation has the arguments that its function takes (C11 7.22.3.2, 7.22.3.4): a recursion over the syntax. Type checking ensures
+-- this.
 use Rattle.std.specs.Prelude.{◌≡◌, ℕ, List, [], ◌∷◌, Option, Some, None}
 use Rattle.cs_ast.specs.TypedTree.{Typed, Of, Form, Through, Index, Member, Arrow, Load, Address, Decay, Convert, Unary, Not, Binary, Compare, Sum, Difference}
 use Rattle.cs_ast.specs.TypedTree.{And, Or, Choice, Comma, Assign, Update, Move, Call, Allocate, Free, TypedList, NoMore, Further, Initial, Value, Parts, Bytes}
@@ -43,7 +43,7 @@ abbrev mutual
   FormHasArguments (Free a) = HasArguments a
   FormHasArguments other = Unit {0}
 
-  -- in expressions in a row
+  -- in several expressions
   pub AllHaveArguments : TypedList → Type 0
   AllHaveArguments NoMore = Unit {0}
   AllHaveArguments (Further e others) = HasArguments e × AllHaveArguments others
@@ -94,7 +94,7 @@ abbrev mutual
   StatementHasArguments (Continue at) = Unit {0}
   StatementHasArguments (Return at value) = OptionHasArguments value
 
-  -- in statements one after another
+  -- in consecutive statements
   pub StatementsHaveArguments : Statements → Type 0
   StatementsHaveArguments Empty = Unit {0}
   StatementsHaveArguments (Then first others) = StatementHasArguments first × StatementsHaveArguments others

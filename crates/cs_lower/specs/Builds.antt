@@ -1,4 +1,4 @@
--- What the functions that lower ensure of the builder and of the strips that they take and give.
+-- What the functions that lower ensure of the builder and of the strips that they take and return.
 use Rattle.std.specs.Prelude.{ℕ}
 use Rattle.cs_ast.specs.TypedTree.{Statement}
 use Rattle.cs_ast.specs.TypedProgram.{TypedProgram, Routine, typed_program, routine}
@@ -18,11 +18,11 @@ abbrev pub function_of : Lowering → Routine
 function_of lowering = routine lowering.function.now
 
 module _ (lowering : Lowering) (old new : GraphBuilder) where
-  -- a strip was made for a task, before a point
+  -- a strip was made for a task, to be followed by a point
   abbrev pub BuildsBefore : Task → Strip → Point → Type 0
   BuildsBefore task made following = Lowers (program_of lowering) task (built_of old) (built_of new) (point_of made) following
 
-  -- the same before another strip
+  -- the same, followed by another strip
   abbrev pub Builds : Task → Strip → Strip → Type 0
   Builds task made following = BuildsBefore task made (point_of following)
 

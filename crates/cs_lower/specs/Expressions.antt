@@ -1,6 +1,6 @@
--- What the lowering of expressions ensures: in every graph that has what was built, the point evaluates the expression, and after it
--- stands the other one; and of the blocks that were there before, the other point first, those that are there now were made, the point
--- first, which brings in no control points but those of the expression, and where the expression is of integers no work on anything else.
+-- What the lowering of expressions ensures: in every graph with the built blocks, the point `p` evaluates the expression and then continues
+-- at `q`; and replacing `q` and the old blocks by `p` and the new blocks adds no control points but those of the expression, and for an
+-- expression of integers only integer code.
 use Rattle.std.specs.Prelude.{ℕ, suc, ◌+◌, List, ◌++◌, ◌∷◌, Option, Some, None}
 use Rattle.cs_types.specs.Shape.{Shape}
 use Rattle.cs_ast.specs.declared.place.Place.{Place}
@@ -24,16 +24,16 @@ use Rattle.cs_lower.specs.Integers.{IsOfIntegers, FormIsOfIntegers, AddsIntegers
 pub data Task : Type 0 where
   -- an expression, evaluated into the temporary with a number
   evaluated : Typed → ℕ → Task
-  -- a form of expressions that stands at a place, whatever its type
+  -- a form of expressions at a source position, for any type
   formed : Place → Form → ℕ → Task
   -- an expression whose value is used
   used_one : Typed → ℕ → Task
   -- two of them
   used_both : Typed → Typed → ℕ → Task
-  -- expressions in a row whose values are used
+  -- several expressions whose values are used
   used_row : TypedList → ℕ → Task
 
--- its allocations have their arguments
+-- the allocations in it have their arguments
 abbrev pub TaskHasArguments : Task → Type 0
 TaskHasArguments (evaluated e number) = HasArguments e
 TaskHasArguments (formed at form number) = FormHasArguments form
@@ -41,7 +41,7 @@ TaskHasArguments (used_one e number) = HasArguments e
 TaskHasArguments (used_both one other number) = HasArguments one × HasArguments other
 TaskHasArguments (used_row row number) = AllHaveArguments row
 
--- it is of integers, in a function with so many locals; a row has the arguments of a call
+-- it works with integers only, in a function with `count` locals; a row is the arguments of a call
 abbrev pub TaskIsOfIntegers : ℕ → Task → Type 0
 TaskIsOfIntegers count (evaluated e number) = IsOfIntegers count e
 TaskIsOfIntegers count (formed at form number) = FormIsOfIntegers count form
@@ -49,7 +49,7 @@ TaskIsOfIntegers count (used_one e number) = IsOfIntegers count e
 TaskIsOfIntegers count (used_both one other number) = IsOfIntegers count one × IsOfIntegers count other
 TaskIsOfIntegers count (used_row row number) = ⊥
 
--- its control points, after which this is met
+-- its control points, if `following` is reached after it
 abbrev pub task_points : Task → Next → List ControlPoint
 task_points (evaluated e number) following = points e following
 task_points (formed at form number) following = points_of at form following
@@ -57,7 +57,7 @@ task_points (used_one e number) following = points e following
 task_points (used_both one other number) following = points one (first other following) ++ points other following
 task_points (used_row row number) following = points_in row following
 
--- a point does it, and then the other one stands
+-- a point performs it and then continues at the other one
 abbrev pub PerformsTask : TypedProgram → Flow → Task → Point → Point → Type 0
 PerformsTask program flow (evaluated e number) p q = evaluates program flow e number p q
 PerformsTask program flow (formed at form number) p q = (ty : Shape) → evaluates_form program flow at ty form number p q
@@ -65,12 +65,12 @@ PerformsTask program flow (used_one e number) p q = used program flow e number p
 PerformsTask program flow (used_both one other number) p q = (r : Point) × used program flow one number p r × used program flow other (suc number) r q
 PerformsTask program flow (used_row row number) p q = used_all program flow row number p q
 
--- an operation, if there is one, and then a point
+-- an operation, if there is one, followed by a point
 abbrev pub does_if : Place → ℕ → Option Work → Point → Point
 does_if at number None q = q
 does_if at number (Some work) q = does at number work q
 
--- what an expression does with its parts, and then a point
+-- the operation of an expression on its operands, followed by a point
 abbrev pub acted : TypedProgram → Typed → ℕ → Point → Point
 acted program (Of at ty form) number q = does_if at number (work_of program ty form) q
 
@@ -84,7 +84,7 @@ abbrev pub fetched : Typed → ℕ → Point → Point
 fetched (Of at ty form) number q = does_if at number (fetch_of form) q
 
 module _ (program : TypedProgram) where
-  -- a point was built for a task, before another one
+  -- a point was built for a task, followed by another one
   pub record Lowers (task : Task) (old new : Built) (p q : Point) : Type 0 where
     pub grows : Grows 0 old new
     pub does : (flow : Flow) → Has flow new → TaskHasArguments task → PerformsTask program flow task p q
@@ -96,23 +96,23 @@ module _ (program : TypedProgram) where
   abbrev pub Evaluates : Typed → ℕ → Built → Built → Point → Point → Type 0
   Evaluates e number old new p q = Lowers (evaluated e number) old new p q
 
-  -- the same of a form of expressions
+  -- the same for a form of expressions
   abbrev pub EvaluatesForm : Place → Form → ℕ → Built → Built → Point → Point → Type 0
   EvaluatesForm at form number old new p q = Lowers (formed at form number) old new p q
 
-  -- the same of an expression whose value is used
+  -- the same for an expression whose value is used
   abbrev pub Uses : Typed → ℕ → Built → Built → Point → Point → Type 0
   Uses e number old new p q = Lowers (used_one e number) old new p q
 
-  -- the same of two expressions
+  -- the same for two expressions
   abbrev pub UsesBoth : Typed → Typed → ℕ → Built → Built → Point → Point → Type 0
   UsesBoth one other number old new p q = Lowers (used_both one other number) old new p q
 
-  -- the same of expressions in a row
+  -- the same for several expressions
   abbrev pub UsesAll : TypedList → ℕ → Built → Built → Point → Point → Type 0
   UsesAll row number old new p q = Lowers (used_row row number) old new p q
 
-  -- the same of an expression with which a block begins
+  -- the same for an expression at the beginning of a block
   pub record UsesIn (e : Typed) (number : ℕ) (old new : Built) (block : ℕ) (q : Point) : Type 0 where
     pub grows : Grows 0 old new
     pub does : (flow : Flow) → Has flow new → HasArguments e → used program flow e number (block_of flow block) q
@@ -120,14 +120,14 @@ module _ (program : TypedProgram) where
         AddsPoints flow (points e following) (q ∷ blocks old) (blocks new)
     pub integers : (count : ℕ) → IsOfIntegers count e → AddsIntegers count (q ∷ blocks old) (blocks new)
 
-  -- the same of the object of an update and its right part, so many temporaries above it, between which the object is loaded
+  -- the same for the object of an update and its right operand, `more` temporaries above it; the object is loaded in between
   pub record UsesAround (update object right : Typed) (more number : ℕ) (old new : Built) (p q : Point) : Type 0 where
     pub mid : Built
     pub middle : Point
     pub last : Uses right (more + number) old mid middle q
     pub one : Uses object number mid new p (fetched update number middle)
 
--- a pointer and an amount, of which the order says which comes first
+-- a pointer and an amount, in the order of evaluation
 abbrev pub earlier : Order → Typed → Typed → Typed
 earlier PointerFirst pointer amount = pointer
 earlier AmountFirst pointer amount = amount

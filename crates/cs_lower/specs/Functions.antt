@@ -13,8 +13,8 @@ use Rattle.cs_lower.specs.Allocations.{StatementHasArguments}
 use Rattle.cs_lower.specs.Building.{Built, blocks, Has, Grows}
 use Rattle.cs_lower.specs.Integers.{StatementIsOfIntegers, AddsIntegers}
 
--- a graph that begins in a block and has what was built executes a function's body, once the blocks of all counted points are there; and what was
--- built has no control points but those of the function, where what was there before has no others, and works with integers alone if the body does
+-- a graph with this entry that contains the built blocks executes a function's body, once all counted points have blocks; the built blocks have no
+-- control points but those of the function, if the old blocks have no others; and they are integer code if the body is of integers
 pub record BeginsBody (program : TypedProgram) (routine : Routine) (body : Statement) (old new : Built) (entry : ℕ) : Type 0 where
   pub grows : Grows (counted_points body) old new
   pub does : (flow : Flow) → Has flow new → StatementHasArguments body → length new.heads ≡ new.counted_points → flow.entry ≡ entry
@@ -24,16 +24,16 @@ pub record BeginsBody (program : TypedProgram) (routine : Routine) (body : State
       AllFit flow (control_points routine) (blocks old) → AllFit flow (control_points routine) (blocks new)
   pub integers : (count : ℕ) → StatementIsOfIntegers count body → AddsIntegers count (blocks old) (blocks new)
 
--- a graph is that of a function's body: it executes the body, and has no control points but those of the function
+-- the graph of a function's body: it executes the body, and has no control points but those of the function
 pub record IsGraphOf (program : TypedProgram) (routine : Routine) (body : Statement) (flow : Flow) : Type 0 where
   pub lowers : LowersBody program routine body flow
   pub fits : AllFit flow (control_points routine) flow.blocks
 
--- all blocks of a graph work with integers alone if the body does, in a function with so many locals
+-- all blocks of a graph are integer code if the body works with integers only, in a function with `count` locals
 abbrev pub WorksAs : Statement → Flow → Type 0
 WorksAs body flow = (count : ℕ) → StatementIsOfIntegers count body → All (IsIntegerPoint count) flow.blocks
 
--- a function with a body has a graph, which is that of the body if its allocations have their arguments, and one without a body has none
+-- exactly a function with a body has a graph; it is that of the body if its allocations have their arguments
 pub record HasGraph (program : TypedProgram) (routine : Routine) (graph : Option Flow) : Type 0 where
   pub there : is_there graph ≡ is_there routine.body
   pub lowers : (body : Statement) (flow : Flow) → routine.body ≡ Some body → graph ≡ Some flow → StatementHasArguments body

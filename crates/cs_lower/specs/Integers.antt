@@ -1,6 +1,6 @@
--- Functions that work with integers alone, as the lowering sees them: a recursion over the syntax. In a function with so many locals their
--- expressions are numbers, the values of its integer variables, and what operators of integers, conversions and stores make of these;
--- every statement may occur. The code of such a function works with integers alone, too.
+-- Functions that work with integers only, as the lowering sees them: a recursion over the syntax. In a function with `count` locals their
+-- expressions are numbers, the values of its integer variables, and operators on integers, conversions and stores of these;
+-- every statement may occur. The code of such a function is integer code.
 use Rattle.std.specs.Prelude.{◌≡◌, ◌<◌, ℕ, List, [], ◌∷◌, Option, Some, None, All}
 use Rattle.cs_types.specs.declared.int_type.IntType.{IntType}
 use Rattle.cs_types.specs.Shape.{integer}
@@ -23,7 +23,7 @@ pub record IsIntegerLocal (count : ℕ) (object : Typed) : Type 0 where
   pub below : declaration < count
 
 abbrev mutual
-  -- an expression is of integers
+  -- an expression works with integers only
   pub IsOfIntegers : ℕ → Typed → Type 0
   IsOfIntegers count (Of at ty form) = FormIsOfIntegers count form
 
@@ -62,7 +62,7 @@ PiecesAreOfIntegers count (Evaluated offset e ∷ others) = IsOfIntegers count e
 PiecesAreOfIntegers count (other ∷ others) = ⊥
 
 abbrev mutual
-  -- a statement is of integers
+  -- a statement works with integers only
   pub StatementIsOfIntegers : ℕ → Statement → Type 0
   StatementIsOfIntegers count (Block at statements) = StatementsAreOfIntegers count statements
   StatementIsOfIntegers count (Declare at declaration initial) = (declaration < count) × InitialIsOfIntegers count initial
@@ -81,7 +81,7 @@ abbrev mutual
   StatementIsOfIntegers count (Continue at) = Unit {0}
   StatementIsOfIntegers count (Return at value) = OptionIsOfIntegers count value
 
-  -- statements one after another
+  -- consecutive statements
   pub StatementsAreOfIntegers : ℕ → Statements → Type 0
   StatementsAreOfIntegers count Empty = Unit {0}
   StatementsAreOfIntegers count (Then first others) = StatementIsOfIntegers count first × StatementsAreOfIntegers count others
@@ -91,10 +91,10 @@ abbrev pub FunctionIsOfIntegers : TypedProgram → ℕ → Type 0
 FunctionIsOfIntegers program function = (body : Statement) → (routine_of program function).body ≡ Some body
     → StatementIsOfIntegers (count_of_locals program function) body
 
--- the code of each function of integers works with integers alone
+-- the code of each integer function is integer code
 abbrev pub KeepsIntegers : Code → TypedProgram → Type 0
 KeepsIntegers code program = (function : ℕ) → FunctionIsOfIntegers program function → HasIntegerCode code program function
 
--- of some blocks others were made, which work with integers alone if those do, in a function with so many locals
+-- new blocks, made from old ones, are integer code if those are, in a function with `count` locals
 pub record AddsIntegers (count : ℕ) (old new : List Point) : Type 0 where
   pub keeps : All (IsIntegerPoint count) old → All (IsIntegerPoint count) new

@@ -1,4 +1,4 @@
--- Code to which nothing leads, as after a `return`, is in the graph too.
+-- Unreachable code, as after a `return`, is in the graph too.
 use Rattle.std.specs.Prelude.{◌≡◌, ℕ, [], ◌∷◌}
 use Rattle.cs_ast.specs.TypedProgram.{TypedProgram}
 use Rattle.cs_cfg.specs.Fitting.{AddsPoints}
@@ -14,7 +14,7 @@ pub record Keeps (old new : Built) (p : Point) : Type 0 where
   pub adds : (flow : Flow) → AddsPoints flow [] (p ∷ blocks old) (blocks new)
   pub integers : (count : ℕ) → AddsIntegers count (p ∷ blocks old) (blocks new)
 
--- a point jumps to a block; nothing leads to the other one, which stands after it
+-- a point jumps to a block; the other one, which follows it, is unreachable
 pub record LeadsOff (old new : Built) (block : ℕ) (p q : Point) : Type 0 where
   pub keeps : Keeps old new q
   pub is : p ≡ jump_to block

@@ -1,4 +1,4 @@
--- What is known of a function that is lowered.
+-- What is known of a function that is being lowered.
 use Rattle.std.specs.Prelude.{◌≡◌, ℕ}
 use Rattle.std.specs.BTreeMap.{get}
 use Rattle.std.specs.Ordering.{nat_cmp}

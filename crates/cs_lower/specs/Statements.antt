@@ -1,6 +1,6 @@
--- What the lowering of statements ensures: in every graph that has what was built, the point executes the statement, and after it
--- stands the other one; and of the blocks that were there before, the other point first, those that are there now were made, the point
--- first, which brings in no control points but those of the statement, and where the statement is of integers no work on anything else.
+-- What the lowering of statements ensures: in every graph with the built blocks, the point `p` executes the statement and then continues
+-- at `q`; and replacing `q` and the old blocks by `p` and the new blocks adds no control points but those of the statement, and for a
+-- statement of integers only integer code.
 use Rattle.std.specs.Prelude.{◌≡◌, ◌<◌, ℕ, ◌+◌, List, [], ◌∷◌, ◌++◌, length, Option, unwrap_or, slice_get}
 use Rattle.cs_ast.specs.declared.place.Place.{Place}
 use Rattle.cs_ast.specs.TypedTree.{Typed, Initial, Statement, Declare, Return, Statements, count_of}
@@ -20,7 +20,7 @@ use Rattle.cs_lower.specs.Labels.{point_of_label}
 use Rattle.cs_lower.specs.Building.{jump_to, Built, blocks, Has, Grows}
 use Rattle.cs_lower.specs.Integers.{OptionIsOfIntegers, InitialIsOfIntegers, PiecesAreOfIntegers, StatementIsOfIntegers, StatementsAreOfIntegers, AddsIntegers}
 
--- where the `goto`s of a function lead: to the block of that counted point
+-- the target of the `goto`s to a label of a function: the block of the label's counted point
 abbrev pub labels_in : Routine → Flow → ℕ → Point
 labels_in routine flow label = block_of flow (unwrap_or (point_of_label routine label) 0)
 
@@ -29,7 +29,7 @@ abbrev pub block_at : List ℕ → ℕ → ℕ → ℕ
 block_at blocks end item = unwrap_or (slice_get blocks item) end
 
 module _ (program : TypedProgram) (routine : Routine) where
-  -- where `break`, `continue` and `goto` lead, what the targets say is met
+  -- at the points to which `break`, `continue` and `goto` lead, the code reaches what the targets name
   pub record Aims (flow : Flow) (to : Targets) (out again : Point) : Type 0 where
     pub out_meets : MeetsNext flow out to.out
     pub again_meets : MeetsNext flow again to.again
@@ -48,7 +48,7 @@ module _ (program : TypedProgram) (routine : Routine) where
         (following : Next) → MeetsNext flow q following → AddsPoints flow (flows to s following) (q ∷ blocks old) (p ∷ blocks new)
     pub integers : (count : ℕ) → StatementIsOfIntegers count s → AddsIntegers count (q ∷ blocks old) (p ∷ blocks new)
 
-  -- the same of statements one after another
+  -- the same for consecutive statements
   pub record ExecutesAll (statements : Statements) (out again : ℕ) (old new : Built) (p q : Point) : Type 0 where
     pub grows : Grows (counted_points_in statements) old new
     pub does : (flow : Flow) → Has flow new → StatementsHaveArguments statements
@@ -60,7 +60,7 @@ module _ (program : TypedProgram) (routine : Routine) where
         (following : Next) → MeetsNext flow q following → AddsPoints flow (flows_in to statements following) (q ∷ blocks old) (p ∷ blocks new)
     pub integers : (count : ℕ) → StatementsAreOfIntegers count statements → AddsIntegers count (q ∷ blocks old) (p ∷ blocks new)
 
-  -- the same of a statement with which a block begins, and after which stands a jump
+  -- the same for a statement at the beginning of a block, followed by a jump
   pub record ExecutesIn (s : Statement) (out again : ℕ) (old new : Built) (block end : ℕ) : Type 0 where
     pub grows : Grows (counted_points s) old new
     pub does : (flow : Flow) → Has flow new → StatementHasArguments s → (counted_point : ℕ) → counted_point + length new.heads ≡ new.counted_points
@@ -71,7 +71,7 @@ module _ (program : TypedProgram) (routine : Routine) where
         (following : Next) → MeetsNext flow (block_of flow end) following → AddsPoints flow (flows to s following) (jump_to end ∷ blocks old) (blocks new)
     pub integers : (count : ℕ) → StatementIsOfIntegers count s → AddsIntegers count (blocks old) (blocks new)
 
-  -- statements one after another, each with which a block begins, and after them a block
+  -- consecutive statements, each at the beginning of a block, followed by a block
   pub record EntersAll (statements : Statements) (out again : ℕ) (old new : Built) (entries : List ℕ) (end : ℕ) : Type 0 where
     pub grows : Grows (counted_points_in statements) old new
     pub counts : length entries ≡ count_of statements
@@ -111,7 +111,7 @@ module _ (program : TypedProgram) (routine : Routine) where
         → (to : Targets) (following : Next) → AddsPoints flow (flows to (Return at value) following) (blocks old) (p ∷ blocks new)
     pub integers : (count : ℕ) → OptionIsOfIntegers count value → AddsIntegers count (blocks old) (p ∷ blocks new)
 
--- a test, and then one of two blocks, is a use over no temporaries; the test of a `for` is optional
+-- the optional test of a `for`, when no temporary is in use, and a branch to one of two blocks
 pub record TestsFor (program : TypedProgram) (at : Place) (test : Option Typed) (old new : Built) (p body : Point) (end : ℕ) : Type 0 where
   pub grows : Grows 0 old new
   pub does : (flow : Flow) (q : Point) → Has flow new → OptionHasArguments test → block_of flow end ≡ q → for_test_at program flow at test p body q

@@ -1,4 +1,4 @@
-//! What has been built of a function's graph.
+//! The builder of a function's graph.
 ghost use Rattle.std.specs.Prelude.{◌≡◌, ◌+◌, suc, [], length, All, Contains, IfOk, OnOk};
 ghost use Rattle.cs_cfg.specs.GraphView as view;
 ghost use Rattle.cs_lower.specs.Building.{point_of, built_of, blocks, Has};
@@ -11,18 +11,18 @@ use cs_cfg::{Block, CountedPoint, Flow};
 use cs_events::PointKind;
 use std::alloc::{AllocError, Global};
 
-/// The blocks that were built of the graph of a function. The block of a counted point has the counted point's number, and the others come after.
+/// The blocks built so far for the graph of a function. The block of a counted point has the counted point's number; the others follow.
 #[derive(Drop)]
 pub struct GraphBuilder {
-    /// How many loop heads and labels the function has.
+    /// The number of loop heads and labels of the function.
     pub counted_points: u32,
-    /// The blocks of the last counted points, the last counted point first: code is built from its end.
+    /// The blocks of the last counted points, in reverse order: code is built from its end.
     pub heads: Vec<Block>,
     pub others: Vec<Block>,
 }
 
 impl GraphBuilder {
-    /// Nothing is built yet.
+    /// Returns a builder without blocks.
     pub fn new(alloc: Global, counted_points: u32) -> GraphBuilder
         ensures { built_of result ≡ record {
           counted_points = counted_points;
@@ -37,7 +37,7 @@ impl GraphBuilder {
         }
     }
 
-    /// Makes a block of a strip, and gives the block's number.
+    /// Makes a strip a block, and returns the block's number.
     pub fn seal(&mut self, strip: Strip) -> Result<u32, AllocError>
         ensures { IfOk result (λ block.
             Seals (built_of self.old) (built_of self.new) block (point_of strip)) }
@@ -47,7 +47,7 @@ impl GraphBuilder {
         Ok(block)
     }
 
-    /// Keeps code to which nothing leads: in a block of its own, unless it is a jump to a block.
+    /// Keeps unreachable code: in a block of its own, unless it is a jump to a block.
     pub fn keep(&mut self, strip: Strip) -> Result<(), AllocError>
         ensures { OnOk result (Keeps (built_of self.old) (built_of self.new) (point_of strip)) }
     {
@@ -60,7 +60,7 @@ impl GraphBuilder {
         }
     }
 
-    // The number of the next block that isn't that of a counted point.
+    // Returns the number of the next block that isn't that of a counted point.
     fn next_block(&self) -> Result<u32, AllocError>
         ensures { IfOk result (λ block.
             block ≡ self.now.counted_points + length (built_of self.now).others) }
@@ -69,7 +69,7 @@ impl GraphBuilder {
         self.counted_points.checked_add(following).ok_or(AllocError)
     }
 
-    /// The number of the counted point before so many others that have no block yet.
+    /// Returns the number of the counted point before the last `others` ones without a block.
     pub fn counted_point_before(&self, others: u64) -> Result<u32, AllocError>
         ensures { IfOk result (λ counted_point.
             counted_point + suc (others + length (built_of self.now).heads)
@@ -82,7 +82,7 @@ impl GraphBuilder {
         left.checked_sub(1).ok_or(AllocError)
     }
 
-    /// Makes the block of the last counted point that has none yet.
+    /// Makes the block of the last counted point without one.
     pub fn seal_counted_point(
         &mut self,
         kind: PointKind,
@@ -103,7 +103,7 @@ impl GraphBuilder {
         Ok(())
     }
 
-    /// The graph, once each counted point has its block.
+    /// Returns the graph, once each counted point has its block.
     pub fn finish(mut self, entry: u32) -> Result<Flow, AllocError>
         ensures entry { IfOk result (λ flow. flow.entry ≡ entry) }
         ensures counted_points { IfOk result

@@ -22,7 +22,7 @@ use cs_types::CType;
 use std::alloc::AllocError;
 
 impl Lowering<'_> {
-    /// Evaluates an expression into a temporary, and then goes on with a strip.
+    /// Returns code that evaluates an expression into a temporary and continues with `following`.
     #[cycle(expressions)]
     pub fn lower_expression(
         &self,
@@ -66,7 +66,7 @@ impl Lowering<'_> {
         }
     }
 
-    /// The same where the expression's value is used.
+    /// The same for an expression whose value is used.
     #[cycle(expressions)]
     pub fn lower_used(
         &self,
@@ -84,7 +84,7 @@ impl Lowering<'_> {
         Ok(made)
     }
 
-    // A way of a branch: an expression whose value is used, and then a strip.
+    // Returns the block of a branch: an expression whose value is used, and then a strip.
     #[cycle(expressions)]
     fn lower_way(
         &self,
@@ -123,7 +123,7 @@ impl Lowering<'_> {
         Ok(made)
     }
 
-    // A pointer and an amount whose values are used, in their order.
+    // A pointer and an amount whose values are used, in their order of evaluation.
     #[cycle(expressions)]
     fn lower_sum(
         &self,
@@ -146,8 +146,8 @@ impl Lowering<'_> {
         }
     }
 
-    // The object of an update and its right part, so many temporaries above it, whose values are used. The object is loaded between
-    // them.
+    // The object of an update, and its right operand `more` temporaries above it, whose values are used. The object is loaded in
+    // between.
     #[cycle(expressions)]
     fn lower_update(
         &self,
@@ -171,7 +171,7 @@ impl Lowering<'_> {
         Ok(made)
     }
 
-    // Expressions in a row whose values are used.
+    // Several expressions whose values are used, one after another.
     #[cycle(expressions)]
     fn lower_row(
         &self,
@@ -292,7 +292,7 @@ impl Lowering<'_> {
         Ok(made)
     }
 
-    // The way of a branch on which the value is known: a number, and then a jump.
+    // The branch of `&&` or `||` whose value is known: a number, and then a jump.
     fn known_way(
         &self,
         graph: &mut GraphBuilder,
@@ -310,7 +310,7 @@ impl Lowering<'_> {
         Ok(block)
     }
 
-    // What comes after the right part of `&&` or `||`: it is made a truth, and then comes a jump.
+    // After the right operand of `&&` or `||`: it becomes a truth value, and a jump follows.
     fn judged(&self, place: Place, number: u32, end: u32) -> Result<Strip, AllocError>
         ensures { IfOk result (λ made. point_of made ≡ does place number Judge (jump_to end)) }
     {
@@ -318,7 +318,7 @@ impl Lowering<'_> {
     }
 }
 
-// The number of the temporary so many above another.
+// Returns the number of the temporary `more` above another one.
 fn above(number: u32, more: usize) -> Result<u32, AllocError>
     ensures { IfOk result (λ above. above ≡ more + number) }
 {
@@ -326,7 +326,7 @@ fn above(number: u32, more: usize) -> Result<u32, AllocError>
     number.checked_add(more).ok_or(AllocError)
 }
 
-// What comes before a strip where the value of an expression is used: the result of a call is looked at.
+// Puts the check that the result of a call was set, if the expression is one, before a strip.
 fn used_before(e: &Expr, number: u32, following: Strip) -> Result<Strip, AllocError>
     ensures { IfOk result (λ made.
         point_of made ≡ used_then (typed e.now) number (point_of following)) }

@@ -28,9 +28,9 @@ use cs_types::CType;
 use std::alloc::{AllocError, Global};
 use std::collections::BTreeMap;
 
-/// The code of a program: each function with a body has a flow graph that executes it, and has just its control points, where each
-/// allocation has the arguments that its function takes (C11 7.22.3). A function that works with integers alone has a graph that does so.
-/// Its only error is want of memory.
+/// Returns the code of a program: each function with a body has a flow graph that executes it and has exactly its control points, if each
+/// allocation has the arguments that its function takes (C11 7.22.3). The graph of an integer function is integer code.
+/// Its only error is running out of memory.
 pub fn lower(alloc: Global, program: &Program) -> Result<Code, AllocError>
     requires { HasLayouts program.now }
     ensures placed { IfOk result (λ code.
@@ -50,7 +50,7 @@ pub fn lower(alloc: Global, program: &Program) -> Result<Code, AllocError>
     Ok(Code { flows })
 }
 
-// The graph of a function, if it has a body.
+// Returns the graph of a function, if it has a body.
 fn lower_function(
     alloc: Global,
     program: &Program,
@@ -69,7 +69,7 @@ fn lower_function(
     }
 }
 
-// The graph that executes the body of a function.
+// Returns the graph that executes the body of a function.
 fn lower_body(
     alloc: Global,
     program: &Program,
@@ -99,7 +99,7 @@ fn lower_body(
     Ok(flow)
 }
 
-// A count as a graph has it.
+// Converts a count to 32 bits.
 fn narrowed(count: u64) -> Result<u32, AllocError>
     ensures { IfOk result (λ made. made ≡ count) }
 {
@@ -107,7 +107,7 @@ fn narrowed(count: u64) -> Result<u32, AllocError>
 }
 
 impl Lowering<'_> {
-    // The body of a function between its beginning and its end. Gives the block in which a call begins.
+    // Lowers the body of a function between its beginning and its end. Returns the block where a call begins.
     fn lower_whole(&self, graph: &mut GraphBuilder, body: &Stmt) -> Result<u32, AllocError>
         requires { IsReady self.now }
         ensures { IfOk result (λ entry.
@@ -132,7 +132,7 @@ impl Lowering<'_> {
     }
 }
 
-// Whether the end of the body of a function with this result gives nothing, and not a value that was never set.
+// Whether a function with this result type returns nothing, rather than an unset value, at the end of its body.
 fn gives_nothing(ty: &CType) -> bool
     ensures { closed_with result ≡ falls_off (shape_of ty.now) }
 {

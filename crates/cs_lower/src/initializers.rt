@@ -24,7 +24,7 @@ use cs_objects::pieces::pieces;
 use std::alloc::AllocError;
 
 impl Lowering<'_> {
-    /// A declaration is reached: the object becomes unset, or takes a value, or becomes zero before its pieces are stored.
+    /// Returns code for a declaration: the object becomes unset, gets a value, or becomes zero before its pieces are stored.
     pub fn lower_declaration(
         &self,
         graph: &mut GraphBuilder,
@@ -51,7 +51,7 @@ impl Lowering<'_> {
         }
     }
 
-    // An object takes what an initializer gives.
+    // Initializes an object.
     fn lower_initial(
         &self,
         graph: &mut GraphBuilder,
@@ -82,7 +82,7 @@ impl Lowering<'_> {
         }
     }
 
-    // The pieces of an initializer of an object are stored.
+    // Stores the pieces of an initializer of an object.
     fn lower_parts(
         &self,
         graph: &mut GraphBuilder,
@@ -104,7 +104,7 @@ impl Lowering<'_> {
         Ok(made)
     }
 
-    // Pieces are stored, one after another.
+    // Stores pieces, one after another.
     fn lower_pieces(
         &self,
         graph: &mut GraphBuilder,
@@ -128,7 +128,7 @@ impl Lowering<'_> {
         Ok(made)
     }
 
-    // A piece is stored.
+    // Stores a piece.
     fn lower_piece(
         &self,
         graph: &mut GraphBuilder,
@@ -154,7 +154,7 @@ impl Lowering<'_> {
         }
     }
 
-    // The value of an expression is stored in a local, at an offset.
+    // Stores the value of an expression in a local, at an offset.
     fn lower_store(
         &self,
         graph: &mut GraphBuilder,
@@ -187,7 +187,7 @@ impl Lowering<'_> {
         }
     }
 
-    // The type of a local.
+    // Returns the type of a local.
     fn local_type(&self, declaration: u32) -> BlockType<'_>
         ensures { type_of result ≡ type_in (function_of self.now) declaration }
     {

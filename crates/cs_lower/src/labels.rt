@@ -1,4 +1,4 @@
-//! Labels: where the `goto`s of a function lead (C11 6.8.6.1).
+//! Labels: the targets of a function's `goto`s (C11 6.8.6.1).
 ghost use Rattle.std.specs.Prelude.{◌≡◌, ◌+◌, ◌==◌, ℕ, IfOk, OnOk, Some, None, if◌then◌else◌};
 ghost use Rattle.std.specs.Option.{option_or};
 ghost use Rattle.std.specs.BTreeMap.{get};
@@ -12,8 +12,8 @@ use cs_objects::counted_points::{counted_points_in, together};
 use std::alloc::AllocError;
 use std::collections::BTreeMap;
 
-/// Adds the labels of a statement, the first counted point of which has a number, each with its counted point, unless the label is there already.
-/// Gives the number after its counted points.
+/// Adds the labels of a statement with their counted points, unless they are there already; `counted_point` is the number of the statement's
+/// first one. Returns the number after its last one.
 #[cycle(labels)]
 pub fn add_labels(
     labels: &mut BTreeMap<u32, u32>,
@@ -39,7 +39,7 @@ pub fn add_labels(
         }
         StmtKind::While(_, body) => add_labels(labels, body, together(counted_point, 1)?),
         StmtKind::Do(body, _) => add_labels(labels, body, together(counted_point, 1)?),
-        // No label can stand in the first part of a `for` in C, and none is looked for there.
+        // In C the first part of a `for` has no labels, so it isn't searched.
         StmtKind::For(first, _, _, body) => {
             let head = together(counted_point, 1)?;
             let next = together(head, counted_points_in(first)?)?;
@@ -58,7 +58,7 @@ pub fn add_labels(
     }
 }
 
-// The same of statements one after another.
+// The same for consecutive statements.
 #[cycle(labels)]
 fn add_labels_in(
     labels: &mut BTreeMap<u32, u32>,

@@ -1,4 +1,4 @@
-//! Lowering: for each function of a typed program with a body the flow graph that executes it.
+//! Lowering: from each function of a typed program with a body to the flow graph that executes it.
 #![tactic(auto)]
 
 mod building;

@@ -23,7 +23,7 @@ use cs_objects::counted_points::{counted_points, counted_points_in, together};
 use std::alloc::AllocError;
 
 impl Lowering<'_> {
-    /// A `while` (C11 6.8.5.1).
+    /// Returns code for a `while` (C11 6.8.5.1).
     #[cycle(statements)]
     pub fn lower_while(
         &self,
@@ -52,7 +52,7 @@ impl Lowering<'_> {
         Ok(self.jump(head))
     }
 
-    /// A `do` (C11 6.8.5.2).
+    /// Returns code for a `do` (C11 6.8.5.2).
     #[cycle(statements)]
     pub fn lower_do(
         &self,
@@ -79,7 +79,7 @@ impl Lowering<'_> {
         Ok(self.jump(start))
     }
 
-    /// A `for` (C11 6.8.5.3). In its first part `continue` leads out of it, to a block.
+    /// Returns code for a `for` (C11 6.8.5.3). In its first part `continue` leads out of the loop, to a block.
     #[cycle(statements)]
     pub fn lower_for(
         &self,
@@ -121,7 +121,7 @@ impl Lowering<'_> {
         Ok(entry)
     }
 
-    /// A test of no other temporary, and then one of two blocks.
+    /// Returns code for a test, when no other temporary is in use, and a branch to one of two blocks.
     pub fn lower_test(
         &self,
         graph: &mut GraphBuilder,
@@ -138,7 +138,7 @@ impl Lowering<'_> {
         self.lower_used(graph, test, 0, self.branch(place, 0, one, other))
     }
 
-    /// The test of a `for`, if it has one, before its body.
+    /// Returns code for the test of a `for`, if it has one, before its body.
     pub fn lower_for_test(
         &self,
         graph: &mut GraphBuilder,
@@ -161,7 +161,7 @@ impl Lowering<'_> {
         }
     }
 
-    /// The last part of a `for`, if it has one, which leads to its head. Gives the block that comes after the body.
+    /// Makes code for the last part of a `for`, if it has one, and a jump to its head. Returns the block after the body.
     pub fn lower_last(
         &self,
         graph: &mut GraphBuilder,

@@ -29,7 +29,7 @@ pub struct Exits {
 }
 
 impl Lowering<'_> {
-    /// Executes a statement, and then goes on with a strip.
+    /// Returns code that executes a statement and continues with `following`.
     #[cycle(statements)]
     pub fn lower_statement(
         &self,
@@ -138,7 +138,7 @@ impl Lowering<'_> {
         Ok(made)
     }
 
-    /// Statements one after another, and then a strip.
+    /// Returns code that executes consecutive statements and continues with `following`.
     #[cycle(statements)]
     pub fn lower_all(
         &self,
@@ -162,7 +162,7 @@ impl Lowering<'_> {
         Ok(made)
     }
 
-    /// The statements of a `switch`, each in a block of its own, and then a block. Gives their blocks.
+    /// Makes a block for each of the statements of a `switch`, in order; the last one continues with a block. Returns their blocks.
     #[cycle(statements)]
     pub fn lower_entries(
         &self,
@@ -188,7 +188,7 @@ impl Lowering<'_> {
         Ok(entries)
     }
 
-    /// A way of a branch: a statement, and then a jump.
+    /// Returns the block of a branch: a statement, and then a jump.
     #[cycle(statements)]
     pub fn lower_way_out(
         &self,
@@ -207,7 +207,7 @@ impl Lowering<'_> {
         Ok(block)
     }
 
-    // A label (C11 6.8.1), whose counted point is the one before those of its statement.
+    // A label (C11 6.8.1); its counted point is the one before those of its statement.
     #[cycle(statements)]
     fn lower_label(
         &self,
@@ -229,7 +229,7 @@ impl Lowering<'_> {
         Ok(self.jump(counted_point))
     }
 
-    // A jump, and after it code to which nothing leads.
+    // A jump, and the unreachable code after it.
     fn lower_jump(
         &self,
         graph: &mut GraphBuilder,
@@ -244,7 +244,7 @@ impl Lowering<'_> {
         Ok(self.jump(block))
     }
 
-    // A `goto` leads to its label; one whose label isn't there leads on (C11 6.8.6.1).
+    // A `goto` leads to its label; if there is no such label, to the next statement (C11 6.8.6.1).
     fn lower_goto(
         &self,
         graph: &mut GraphBuilder,

@@ -1,4 +1,4 @@
-//! Strips: code that has no number yet. It is built from its end.
+//! Strips: code that isn't a block yet and has no number. It is built from its end.
 ghost use Rattle.std.specs.Prelude.{◌≡◌, ℕ, [], IfOk, Some};
 ghost use Rattle.cs_cfg.specs.GraphView as view;
 ghost use Rattle.cs_cfg.specs.Placing.{does};
@@ -8,7 +8,7 @@ use cs_ast::Place;
 use cs_cfg::{Block, BlockEnd, CountedPoint, Operation, Work};
 use std::alloc::{AllocError, Global};
 
-/// Operations with the last one first, and the end after them.
+/// Operations in reverse order, and the block end after them.
 #[derive(Drop)]
 pub struct Strip {
     pub operations: Vec<Operation>,
@@ -16,7 +16,7 @@ pub struct Strip {
 }
 
 impl Strip {
-    /// An end, and nothing before it.
+    /// Returns a strip that is only an end.
     pub fn ending(alloc: Global, end: BlockEnd) -> Strip
         ensures { point_of result ≡ record { operations = []; end = view.block_end end } }
     {
@@ -26,7 +26,7 @@ impl Strip {
         }
     }
 
-    /// An operation on the temporaries from a number on, and then the strip.
+    /// Puts an operation, on the temporaries from a number on, before the strip.
     pub fn prepend(mut self, place: Place, temporary: u32, work: Work) -> Result<Strip, AllocError>
         ensures { IfOk result (λ made.
             point_of made ≡ does place temporary (view.work work) (point_of self)) }
@@ -39,7 +39,7 @@ impl Strip {
         Ok(self)
     }
 
-    /// The block to which the strip jumps at once, if it is a jump and nothing before it.
+    /// Returns the block to which the strip jumps at once, if it is only a jump.
     pub fn target(&self) -> Option<u32>
         ensures { (block : ℕ) → result ≡ Some block → point_of self.now ≡ jump_to block }
     {
@@ -53,14 +53,14 @@ impl Strip {
         }
     }
 
-    /// The block that the strip is, which may be that of a counted point.
+    /// Returns the strip as a block, which may be that of a counted point.
     pub fn into_block(mut self, counted_point: Option<CountedPoint>) -> Result<Block, AllocError>
         ensures { IfOk result (λ block. view.block block ≡ record {
           operations = view.with_counted_point counted_point (point_of self).operations;
           end = (point_of self).end;
         }) }
     {
-        // All code is kept, so it gets just the memory that it needs, and the next strip that of this one.
+        // All code is kept, so it gets exactly the memory that it needs; the next strip reuses that of this one.
         let alloc = *self.operations.allocator();
         let mut operations = Vec::with_capacity(alloc, self.operations.len())?;
         operations.append(&mut self.operations)?;

@@ -23,7 +23,7 @@ use cs_cfg::{BlockEnd, SwitchCase};
 use std::alloc::AllocError;
 
 impl Lowering<'_> {
-    /// A `switch`. Its statements stand one after another, and `break` leads after them.
+    /// Returns code for a `switch`. Its statements follow one another, and `break` leads to the end of the last one.
     #[cycle(statements)]
     pub fn lower_switch(
         &self,
@@ -51,7 +51,7 @@ impl Lowering<'_> {
         Ok(made)
     }
 
-    // The value of a `switch`, and then the block of its case. The blocks are those of its statements; `end` comes after them.
+    // Selects the block of the case for the value of a `switch`. `blocks` are those of its statements, and `end` comes after them.
     fn lower_cases(
         &self,
         graph: &mut GraphBuilder,
@@ -70,7 +70,7 @@ impl Lowering<'_> {
         self.lower_used(graph, value, 0, following)
     }
 
-    // A number leads to the block of its case.
+    // Returns the selection of the block of a case.
     fn choice(
         &self,
         place: Place,
@@ -86,7 +86,7 @@ impl Lowering<'_> {
         Ok(Strip::ending(self.alloc, end))
     }
 
-    // The cases with a value, each with its block.
+    // Returns the cases with a value, each with its block.
     fn ways(&self, cases: &[Case], blocks: &[u32], end: u32) -> Result<Vec<SwitchCase>, AllocError>
         ensures { IfOk result (λ ways.
             map switch_case ways.items ≡ cases_to blocks.now end cases.now) }
@@ -113,7 +113,7 @@ fn add_way(ways: &mut Vec<SwitchCase>, case: &Case, block: u32) -> Result<(), Al
     }
 }
 
-// The block of the statement with a number, or else the one after all of them.
+// Returns the block of the statement with a number, or the one after all of them.
 fn block_at(blocks: &[u32], item: u32, end: u32) -> u32
     ensures { result ≡ statements.block_at blocks.now end item }
 {
@@ -123,7 +123,7 @@ fn block_at(blocks: &[u32], item: u32, end: u32) -> u32
     }
 }
 
-// The block of `default`, or else the one after all statements.
+// Returns the block of `default`, or the one after all statements.
 fn default_block(cases: &[Case], blocks: &[u32], end: u32) -> u32
     ensures { result ≡ statements.block_at blocks.now end
         (default_item cases.now (length blocks.now)) }

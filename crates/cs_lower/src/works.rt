@@ -1,4 +1,4 @@
-//! What an expression does with its parts.
+//! The operations of expressions on their operands.
 ghost use Rattle.std.specs.Prelude.{◌≡◌, IfOk, Some, option_map};
 ghost use Rattle.cs_types.specs.Shape.{shape_of};
 ghost use Rattle.cs_ast.specs.TypedProgram.{HasLayouts};
@@ -25,7 +25,7 @@ use cs_values::types::size_of;
 use std::alloc::AllocError;
 
 impl Lowering<'_> {
-    /// What an expression does with its parts, before a strip.
+    /// Puts the operation of an expression on its operands before a strip.
     pub fn act(&self, e: &Expr, number: u32, following: Strip) -> Result<Strip, AllocError>
         requires { HasLayouts self.now.program.now }
         ensures { IfOk result (λ made.
@@ -38,7 +38,7 @@ impl Lowering<'_> {
         }
     }
 
-    /// The load of an update, before a strip.
+    /// Puts the load of an update before a strip.
     pub fn fetch(&self, e: &Expr, number: u32, following: Strip) -> Result<Strip, AllocError>
         ensures { IfOk result (λ made.
             point_of made ≡ fetched (typed e.now) number (point_of following)) }
@@ -49,7 +49,7 @@ impl Lowering<'_> {
         }
     }
 
-    // The operation that does what an expression does with its parts, if it does something with them.
+    // Returns the operation of an expression on its operands, if there is one.
     fn work_of(&self, e: &Expr) -> Result<Option<Work>, AllocError>
         requires { HasLayouts self.now.program.now }
         ensures { IfOk result (λ made.
@@ -94,7 +94,7 @@ impl Lowering<'_> {
         }
     }
 
-    // A conversion from a type to another.
+    // A conversion from one type to another.
     fn conversion(&self, from: &CType, to: &CType) -> Result<Option<Work>, AllocError>
         ensures { IfOk result (λ made.
             option_map view.work made
@@ -105,7 +105,7 @@ impl Lowering<'_> {
         Ok(Some(Work::Convert(from, to)))
     }
 
-    // A store of what an operator gives, which works in a type.
+    // A store of the result of an operator, which is computed in a type.
     fn updating(
         &self,
         operator: BinOp,
@@ -122,7 +122,7 @@ impl Lowering<'_> {
         Ok(Some(Work::Update(operator, access, works_in, gives)))
     }
 
-    // A store of a pointer that has moved.
+    // A store of a moved pointer.
     fn moving(
         &self,
         object: &Expr,
@@ -176,7 +176,7 @@ impl Lowering<'_> {
         }
     }
 
-    // What a load or a store needs to know of the expression that names an object.
+    // Returns the access to the object that an expression designates.
     fn access(&self, object: &Expr) -> Result<Access, AllocError>
         ensures { IfOk result (λ made. view.access made ≡ meaning.access_of (typed object.now)) }
     {
@@ -191,7 +191,7 @@ impl Lowering<'_> {
     }
 }
 
-// How many arguments there are.
+// Returns the number of arguments.
 #[tactic(auto, using(cs_objects::proofs::StatementForms::counted))]
 fn count_of(arguments: &[Expr]) -> Result<u32, AllocError>
     ensures { IfOk result (λ count. count ≡ count_all (typed_list arguments.now)) }

@@ -1,4 +1,4 @@
--- Words for small programs by hand, all in one line of one file, and for how their runs end.
+-- Definitions for small programs made by hand, all in one line of one file, and for how their runs end.
 use Rattle.std.proofs.Common.{◌≡◌, ℕ, ℤ, pos, Bool, List, [], ◌∷◌, Option, Some, None, unwrap_or, refl, ap, subst}
 use Rattle.cs_types.specs.declared.data_model.DataModel.TheVariants.{Lp64}
 use Rattle.cs_types.specs.declared.int_type.IntType.TheVariants.{Int}

@@ -1,4 +1,4 @@
--- Samples of evaluation: what is evaluated, in which order, and what is looked at.
+-- Samples of evaluation: what is evaluated, in which order, and what is looked up.
 use Rattle.std.proofs.Common.{ℕ, ℤ, pos, [], ◌∷◌, Some, None, true, false, refl}
 use Rattle.cs_types.specs.Shape.{void}
 use Rattle.cs_inputs.specs.declared.path.Path.{Path}

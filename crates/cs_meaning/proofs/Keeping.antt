@@ -1,4 +1,4 @@
--- An expression that shows nothing keeps what is to be done, the visits and the frames.
+-- An expression without an event keeps the things to do, the visits and the frames.
 use Rattle.std.proofs.Common.{◌≡◌, ℕ, ◌+◌, true, false, not, List, length, Option, Some, None, nat_lt, if◌then◌else◌, refl}
 use Rattle.cs_types.specs.Shape.{Shape, integer}
 use Rattle.cs_ast.specs.declared.place.Place.{Place}

@@ -1,4 +1,4 @@
--- Every silent step of the reference machine leaves fewer turns, or as many and less weight.
+-- Every silent step of the reference machine lessens the turns, or the weight without more turns.
 use Rattle.std.proofs.Common.{◌≡◌, ℕ, ◌+◌, ◌<◌, ◌≤◌, inl, inr, Bool, true, false, List, [], ◌∷◌, Option, Some, None, nat_lt}
 use Rattle.std.proofs.Common.{slice_get, if◌then◌else◌, refl, ap, arith}
 use Rattle.std.proofs.lemmas.Bool.Decides.{nat_tests}

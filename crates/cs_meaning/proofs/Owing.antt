@@ -1,4 +1,4 @@
--- What each operation owes where it shows nothing: what comes after it.
+-- The condition on each operation without an event: what comes after it has to satisfy it.
 use Rattle.std.proofs.Common.{ℕ, ◌+◌, ◌*◌, ℤ, pos, int_le, int_lt, int_eq, ◌&&◌, ◌||◌, Bool, true, false, List, [], ◌∷◌, Option, Some}
 use Rattle.std.proofs.Common.{None, if◌then◌else◌}
 use Rattle.cs_types.specs.Shape.{Shape, void, integer, pointer, array, struct}

@@ -1,5 +1,5 @@
--- What is left of a run that goes on without an event: turns, which are the visits that its frames may still make, and the weight of
--- what is to be done.
+-- The measure of a run that continues without an event: turns, which are the visits that its frames may still make, and the weight of
+-- the things to do.
 use Rattle.std.proofs.Common.{◌≡◌, ℕ, zero, suc, ◌+◌, ◌-◌, ◌<◌, List, [], ◌∷◌, Option, Some, None, slice_get, slice_set, arith}
 use Rattle.cs_ast.specs.TypedTree.{Typed, Of, Form, Number, Null, Text, Local, Global, Through, Index, Member, Arrow, Load, Address, Decay, Convert, Unary, Not}
 use Rattle.cs_ast.specs.TypedTree.{Binary, Compare, Sum, Difference, And, Or, Choice, Comma, Assign, Update, Move, Call, Allocate, Free, TypedList, NoMore}

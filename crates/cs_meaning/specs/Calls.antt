@@ -48,11 +48,11 @@ wrote_path call argument = root_path (root.Wrote call argument)
 abbrev pub allocation_path : ℕ → Path
 allocation_path allocation = root_path (root.Malloc allocation)
 
--- what a parameter holds at first: the argument with its number, at the offset 0
+-- the initial contents of a parameter: its argument, at offset 0
 abbrev pub argument_at : Option Operand → ℕ → Option Cell
 argument_at argument offset = if offset == 0 then option_map cell_of argument else None
 
--- a local of a new frame: nothing of it is set, but a parameter holds its argument (C11 6.2.4, paragraph 6)
+-- a local of a new frame: it is unset, but a parameter holds its argument (C11 6.2.4, paragraph 6)
 abbrev pub local_block : TypedProgram → Option Operand → Variable → Block
 local_block program argument v = record (new_block v.ty (size_of program v.ty) UnsetFill) { written = argument_at argument }
 
@@ -64,17 +64,17 @@ with_locals program frame variables arguments memory (LocalObject number declara
     else memory (LocalObject number declaration)
 with_locals program frame variables arguments memory other = memory other
 
--- memory once a frame has ended: its locals are there no more
+-- memory once a frame has ended: its locals no longer exist
 abbrev pub without_locals : ℕ → Memory → Memory
 without_locals frame memory (LocalObject number declaration) = if number == frame then None else memory (LocalObject number declaration)
 without_locals frame memory other = memory other
 
--- what a function gives at the end of its body: nothing, or a value that was never set (C11 6.9.1, paragraph 12)
+-- the result at the end of a function's body: nothing, or an unset value (C11 6.9.1, paragraph 12)
 abbrev pub falls_off : Shape → Operand
 falls_off void = Nothing
 falls_off other = Scalar UnsetCell
 
--- a frame in which a function is to be executed
+-- a frame at the beginning of a function
 abbrev pub new_frame : ℕ → ℕ → Routine → Frame
 new_frame function number routine = record {
   function = function;
@@ -84,7 +84,7 @@ new_frame function number routine = record {
   visits = replicate (counted_points (body_of routine)) 0;
 }
 
--- the machine in a new frame, which has its locals, with these arguments
+-- the machine in a new frame and its locals, with these arguments
 abbrev pub inside : {Rest : Type 0} → TypedProgram → CallFrame Rest → Routine → List Operand → Running Rest → Running Rest
 inside program frame routine arguments m = record m {
   frame = frame;
@@ -97,11 +97,11 @@ inside program frame routine arguments m = record m {
 abbrev pub entered : TypedProgram → ℕ → Routine → List Operand → State → State
 entered program function routine arguments m = inside program (new_frame function m.frames routine) routine arguments m
 
--- one more frame than there may be goes over the budget of depth
+-- a further frame exceeds the budget of depth if it is used up
 abbrev pub within_depth : {S : Type 0} → RunBudgets → Place → ℕ → Act S → Act S
 within_depth budgets at frames act = if nat_lt frames budgets.depth then act else Stops (Over Depth at)
 
--- a call of a function with a body: it shows, unless there are as many frames as there may be
+-- a call of a function with a body: it shows, unless the budget of depth is used up
 abbrev pub enter_as : {Rest : Type 0} → TypedProgram → RunBudgets → (ℕ → CallFrame Rest) → Place → ℕ → Routine → List Operand
     → Running Rest → Act (Running Rest)
 enter_as program budgets begins at function routine arguments m =
@@ -111,17 +111,17 @@ enter_as program budgets begins at function routine arguments m =
 abbrev pub enter : TypedProgram → RunBudgets → Place → ℕ → Routine → List Operand → State → Act State
 enter program budgets at function routine arguments m = enter_as program budgets (λ number. new_frame function number routine) at function routine arguments m
 
--- whether what a block holds may be written by a function without a body
+-- whether a function without a body may write an object with this standing
 abbrev pub is_writable : TypedProgram → Object → Standing → Bool
 is_writable program object Live = not (is_constant program object)
 is_writable program object Freed = false
 is_writable program object Ended = false
 
--- an object as such a function leaves it: its scalars are inputs below a path
+-- an object after a call of such a function: its scalars are inputs below a path
 abbrev pub overwrite : TypedProgram → Object → Path → Block → Block
 overwrite program object path block = if is_writable program object block.standing then refill (InputFill path) block else block
 
--- what such a call does to the object that an argument names: it shows whether there is one, and writes all of it
+-- the effect of such a call on the object that an argument points to: it shows whether there is one, and writes all of it
 abbrev pub write_through : {S : Type 0} → TypedProgram → Place → Path → Cell → Memory → (Memory → Act S) → Act S
 write_through program at path NullCell memory onward = shows_then at (label.Look false) (onward memory)
 write_through program at path (PointerCell object offset) memory onward =
@@ -129,7 +129,7 @@ write_through program at path (PointerCell object offset) memory onward =
 write_through program at path (NumberCell n) memory onward = onward memory
 write_through program at path UnsetCell memory onward = onward memory
 
--- the same of each argument whose parameter may be written through, from the argument with a number on
+-- the same for each argument whose parameter may be written through, from the argument with a number on
 abbrev pub write_arguments : {S : Type 0} → TypedProgram → Place → ℕ → ℕ → List Bool → List Operand → Memory → (Memory → Act S) → Act S
 write_arguments program at call argument (true ∷ written) (operand ∷ operands) memory onward =
     write_through program at (wrote_path call argument) (cell_of operand) memory
@@ -138,12 +138,12 @@ write_arguments program at call argument (false ∷ written) (operand ∷ operan
     write_arguments program at call (argument + 1) written operands memory onward
 write_arguments program at call argument written operands memory onward = onward memory
 
--- the result of a call of such a function, by the type that it gives: it is looked up, but nothing is where the type is void
+-- the result of a call of such a function, by its type: it is looked up, except if the type is `void`
 abbrev pub outside_result : {S : Type 0} → TypedProgram → Shape → ℕ → Memory → (Memory → Operand → Act S) → Act S
 outside_result program void call memory onward = onward memory Nothing
 outside_result program ty call memory onward = receive program memory (Unknown (result_path call) ty) (λ after cell. onward after (Scalar cell))
 
--- a call of a function without a body: it shows, its number is drawn and its result looked up, and it writes
+-- a call of a function without a body: it shows, gets a number, its result is looked up, and it writes through its arguments
 abbrev pub call_outside : {Rest : Type 0} → TypedProgram → Place → ℕ → Routine → List Operand → Running Rest → Act (Running Rest)
 call_outside program at function routine arguments m =
     shows_then at (label.Callee function)
@@ -156,7 +156,7 @@ abbrev pub call_routine : TypedProgram → RunBudgets → Place → ℕ → Rout
 call_routine program budgets at function routine None arguments m = call_outside program at function routine arguments m
 call_routine program budgets at function routine (Some body) arguments m = enter program budgets at function routine arguments m
 
--- a call with so many arguments, which are on the stack
+-- a call with `count` arguments, which are on the stack
 abbrev pub call : TypedProgram → RunBudgets → Place → ℕ → ℕ → State → Act State
 call program budgets at function count m =
     call_routine program budgets at function (routine_of program function) (routine_of program function).body (newest count m) (pop_many count m)
@@ -173,7 +173,7 @@ returned_of (Scalar cell) = returned_cell cell
 returned_of (Whole cells) = returned.Unset
 returned_of Nothing = returned.Nothing
 
--- the frame that runs ends, and gives a value to the one that called it; the run is done where none did
+-- the current frame ends, and returns a value to its caller; the run is done if there is none
 abbrev pub leave_to : {Rest : Type 0} → List (CallFrame Rest) → Operand → Running Rest → Act (Running Rest)
 leave_to [] value m = Stops (Done (returned_of value))
 leave_to (caller ∷ callers) value m = Goes (record m {
@@ -185,12 +185,12 @@ leave_to (caller ∷ callers) value m = Goes (record m {
 abbrev pub leave : {Rest : Type 0} → Operand → Running Rest → Act (Running Rest)
 leave value m = leave_to m.callers value m
 
--- a number of bytes
+-- a number as a number of bytes; 0 if it is negative
 abbrev pub bytes_of_number : ℤ → ℕ
 bytes_of_number (pos n) = n
 bytes_of_number (negsuc n) = 0
 
--- what an allocation gives: a block of so many bytes with this fill, or null
+-- the result of an allocation: a block of a size with this fill, or null
 abbrev pub allocated : {Rest : Type 0} → Shape → ℤ → Fill → Bool → Running Rest → Running Rest
 allocated element bytes fill true m =
     push_cell (PointerCell (HeapBlock (m.allocations + 1)) (pos 0))
@@ -200,12 +200,12 @@ allocated element bytes fill true m =
     })
 allocated element bytes fill false m = push_cell NullCell (record m { allocations = m.allocations + 1 })
 
--- an allocation of so many bytes (C11 7.22.3.4)
+-- an allocation of a number of bytes (C11 7.22.3.4)
 abbrev pub allocate_bytes : {Rest : Type 0} → Place → Shape → ℤ → Fill → Running Rest → Act (Running Rest)
 allocate_bytes at element bytes fill m =
     Allocates at (allocation_path (m.allocations + 1)) (λ given. Goes (allocated element bytes fill given m))
 
--- an allocation of so many elements of so many bytes: null where these are too many (C11 7.22.3.2)
+-- an allocation of `count` elements of a size: null if the product is too large (C11 7.22.3.2)
 abbrev pub allocate_zeros : {Rest : Type 0} → TypedProgram → Place → Shape → ℤ → ℤ → Running Rest → Act (Running Rest)
 allocate_zeros program at element count size m =
     Asks at (operation.Product count size) (λ holds.
@@ -228,7 +228,7 @@ not_freed at Live act = act
 not_freed at Freed act = Stops (Fault kind.DoubleFree at)
 not_freed at Ended act = Stops (Fault kind.BadFree at)
 
--- what isn't there can't be freed
+-- an object that doesn't exist can't be freed
 abbrev pub known : {S : Type 0} → Place → Option Block → Act S → Act S
 known at None act = Stops (Fault kind.BadFree at)
 known at (Some block) act = act
@@ -239,16 +239,16 @@ releasable at (StartBlock path) act = act
 releasable at (HeapBlock allocation) act = act
 releasable at other act = Stops (Fault kind.BadFree at)
 
--- a block with this standing is freed
+-- frees a block with this standing
 abbrev pub release_block : {Rest : Type 0} → Place → Standing → Object → ℤ → Running Rest → Act (Running Rest)
 release_block at standing object offset m =
     not_freed at standing (at_beginning at offset (Goes (push Nothing (with_memory (changed (stand Freed) object m.memory) m))))
 
--- a block that may be there is freed
+-- frees a block that may not exist
 abbrev pub release_known : {Rest : Type 0} → Place → Option Block → Object → ℤ → Running Rest → Act (Running Rest)
 release_known at found object offset m = known at found (release_block at (unwrap_or found NO_BLOCK).standing object offset m)
 
--- an object is freed
+-- frees an object
 abbrev pub release_object : {Rest : Type 0} → Place → Object → ℤ → Running Rest → Act (Running Rest)
 release_object at object offset m = releasable at object (release_known at (m.memory object) object offset m)
 

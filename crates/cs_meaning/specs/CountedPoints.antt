@@ -1,4 +1,4 @@
--- Counted points: the loop heads and the labels of a body, numbered as they stand there, and counted as a frame reaches them.
+-- Counted points: the loop heads and the labels of a body, numbered in file order; a frame counts its visits of each.
 use Rattle.std.specs.Prelude.{ℕ, ◌+◌, nat_lt, Option, Some, None, slice_get, slice_set, if◌then◌else◌}
 use Rattle.cs_ast.specs.declared.place.Place.{Place}
 use Rattle.cs_ast.specs.TypedTree.{Statement, Block, Declare, Run, If, IfElse, While, Do, For, Switch, Goto, Label, Break, Continue, Return, Statements, Empty}
@@ -12,7 +12,7 @@ use Rattle.cs_events.specs.Acts.{Act, Goes, Stops, Touches}
 use Rattle.cs_meaning.specs.Machine.{Running}
 
 abbrev mutual
-  -- how many loop heads and labels there are in a statement
+  -- the number of loop heads and labels in a statement
   pub counted_points : Statement → ℕ
   counted_points (Block at statements) = counted_points_in statements
   counted_points (Declare at declaration initial) = 0
@@ -29,20 +29,20 @@ abbrev mutual
   counted_points (Continue at) = 0
   counted_points (Return at value) = 0
 
-  -- how many there are in statements one after another
+  -- their number in consecutive statements
   pub counted_points_in : Statements → ℕ
   counted_points_in Empty = 0
   counted_points_in (Then first others) = counted_points first + counted_points_in others
 
--- the machine in whose frame the counted point with a number was reached so often
+-- the machine in whose frame the counted point with a number was visited `count` times
 abbrev pub with_visits : {Rest : Type 0} → ℕ → ℕ → Running Rest → Running Rest
 with_visits counted_point count m = record m { frame = record m.frame { visits = slice_set m.frame.visits counted_point count } }
 
--- one more visit than there may be goes over the budget of visits
+-- a further visit exceeds the budget of visits if it is used up
 abbrev pub within_visits : {S : Type 0} → RunBudgets → Place → ℕ → Act S → Act S
 within_visits budgets at count act = if nat_lt count budgets.visits then act else Stops (Over Visits at)
 
--- a counted point that was reached so often is reached once more, unless the budget of visits is used up; one that has no count is over
+-- a counted point with `count` visits is reached again, unless the budget of visits is used up; one without a count exceeds it
 abbrev pub reached_again : {Rest : Type 0} → RunBudgets → Place → PointKind → ℕ → Option ℕ → Running Rest → Act (Running Rest)
 reached_again budgets at kind counted_point None m = Stops (Over Visits at)
 reached_again budgets at kind counted_point (Some count) m =

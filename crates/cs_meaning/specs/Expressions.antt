@@ -1,4 +1,4 @@
--- What evaluating an expression does (C11 6.5): its parts, in the order in which they stand in the file, and then what it does with them.
+-- The evaluation of expressions (C11 6.5): the operands, in file order, and then the operation on them.
 use Rattle.std.specs.Prelude.{ℕ, ◌+◌, ℤ, pos, Bool, true, false, not, List, ◌∷◌, if◌then◌else◌}
 use Rattle.cs_types.specs.Shape.{Shape, void, integer}
 use Rattle.cs_ast.specs.declared.place.Place.{Place}
@@ -23,7 +23,7 @@ use Rattle.cs_meaning.specs.Calls.{call, allocate, release}
 use Rattle.cs_meaning.specs.Machine.{Operand, Scalar, Item, Evaluate, EvaluateUnused, Act as Acting, Fetch, Choose, Judge, Use, Drop, Running, State, to_do}
 use Rattle.cs_meaning.specs.Machine.{push, push_cell, pop, pop_many, with_memory, operand_at, cell_of, cell_at}
 
--- expressions in a row, evaluated from the first on
+-- several expressions, evaluated from the first on
 abbrev pub evaluates_all : TypedList → List Item → List Item
 evaluates_all NoMore following = following
 evaluates_all (Further first others) following = Evaluate first ∷ evaluates_all others following
@@ -32,17 +32,17 @@ abbrev pub count_all : TypedList → ℕ
 count_all NoMore = 0
 count_all (Further first others) = count_all others + 1
 
--- a pointer and an amount, in the order in which they stand in the file
+-- a pointer and an amount, in file order
 abbrev pub evaluates_both : Typed → Typed → Order → List Item → List Item
 evaluates_both one amount PointerFirst following = Evaluate one ∷ (Evaluate amount ∷ following)
 evaluates_both one amount AmountFirst following = Evaluate amount ∷ (Evaluate one ∷ following)
 
--- a conversion's operand: to void, its value isn't used
+-- the operand of a conversion; in one to `void`, its value isn't used
 abbrev pub evaluates_operand : Shape → Typed → List Item → List Item
 evaluates_operand void a following = EvaluateUnused a ∷ following
 evaluates_operand other a following = Evaluate a ∷ following
 
--- the parts of an expression, and what is done with them, before what is to be done then
+-- the operands of an expression and its operation on them, before the other things to do
 abbrev pub evaluates_form : Typed → Shape → Form → List Item → List Item
 evaluates_form e ty (Number n) following = Acting e ∷ following
 evaluates_form e ty Null following = Acting e ∷ following
@@ -77,12 +77,12 @@ evaluates_form e ty (Free a) following = Evaluate a ∷ (Acting e ∷ following)
 abbrev pub evaluates : Typed → List Item → List Item
 evaluates (Of at ty form) following = evaluates_form (Of at ty form) ty form following
 
--- the result of a call is looked at where it is used; no other value has to be
+-- a check that the result of a call, if the expression is one, was set; other values need no check
 abbrev pub uses : Typed → List Item → List Item
 uses (Of at ty (Call function arguments)) following = Use at ∷ following
 uses other following = following
 
--- how old the pointer and the amount are, of which one was evaluated after the other
+-- the ages of a pointer and an amount, by their order of evaluation
 abbrev pub pointer_age : Order → ℕ
 pointer_age PointerFirst = 1
 pointer_age AmountFirst = 0
@@ -91,7 +91,7 @@ abbrev pub amount_age : Order → ℕ
 amount_age PointerFirst = 0
 amount_age AmountFirst = 1
 
--- the value that an update gives
+-- the value of an update: the old one or the new one
 abbrev pub given : Gives → Operand → Operand → Operand
 given Old before after = before
 given New before after = after
@@ -100,7 +100,7 @@ given New before after = after
 abbrev pub number_at : {Rest : Type 0} → Running Rest → ℕ → ℤ
 number_at m age = number_in (cell_at m age)
 
--- a store to the object that an expression names, whose place is an operand of this age, before a value is left in place of some operands
+-- a store to the object that an expression designates, whose lvalue is the operand of this age; then a value replaces `count` operands
 abbrev pub stores_to : {Rest : Type 0} → TypedProgram → Place → Access → ℕ → Operand → ℕ → Operand → Running Rest → Act (Running Rest)
 stores_to program at object age operand count left m =
     store_object program m.memory m.frame.number at object (cell_at m age) operand (λ memory. Goes (push left (with_memory memory (pop_many count m))))
@@ -108,15 +108,15 @@ stores_to program at object age operand count left m =
 abbrev pub stores : TypedProgram → Place → Typed → ℕ → Operand → ℕ → Operand → State → Act State
 stores program at a age operand count left m = stores_to program at (access_of a) age operand count left m
 
--- an update of a number: the operands are the place, the value before, the same converted, and the right operand
+-- an update of a number: the operands are the lvalue, the old value, the same converted, and the right operand
 abbrev pub updates : TypedProgram → Place → Typed → Gives → ℤ → State → Act State
 updates program at a gives number m = stores program at a 3 (Scalar (NumberCell number)) 4 (given gives (operand_at m 2) (Scalar (NumberCell number))) m
 
--- a pointer that has moved: the operands are the place, the value before, and the amount
+-- an update of a pointer: the operands are the lvalue, the old value, and the amount
 abbrev pub moves : TypedProgram → Place → Typed → Gives → Cell → State → Act State
 moves program at a gives cell m = stores program at a 2 (Scalar cell) 3 (given gives (operand_at m 1) (Scalar cell)) m
 
--- what an expression does with its parts, which are on the stack
+-- the operation of an expression on its operands, which are on the stack
 abbrev pub act_form : TypedProgram → RunBudgets → Place → Shape → Form → State → Act State
 act_form program budgets at ty (Number n) m = Goes (push_cell (NumberCell n) m)
 act_form program budgets at ty Null m = Goes (push_cell NullCell m)
@@ -156,7 +156,7 @@ act_form program budgets at ty other m = Goes m
 abbrev pub act : TypedProgram → RunBudgets → Typed → State → Act State
 act program budgets (Of at ty form) m = act_form program budgets at ty form m
 
--- the load of an update, whose place stays below the value; a number is converted to the type in which the operator works
+-- the load of an update; the lvalue stays below the value; a number is converted to the operator's type
 abbrev pub fetch_form : TypedProgram → Place → Form → State → Act State
 fetch_form program at (Update op a b works_in gives) m =
     load program m.memory m.frame.number a (cell_at m 0) (λ memory operand.
@@ -169,16 +169,16 @@ fetch_form program at other m = Goes m
 abbrev pub fetch : TypedProgram → Typed → State → Act State
 fetch program (Of at ty form) m = fetch_form program at form m
 
--- the second part is evaluated, and is made a truth; or the value is known
+-- the second operand is evaluated, and becomes a truth value, if it is needed; else the value is known
 abbrev pub goes_on_to : Bool → Place → Typed → Bool → State → State
 goes_on_to true at b known m = to_do (Evaluate b ∷ (Judge at ∷ m.frame.todo)) m
 goes_on_to false at b known m = push_cell (truth_cell known) m
 
--- what is evaluated after a test
+-- the expression that is evaluated after a test
 abbrev pub goes_to : Typed → State → State
 goes_to e m = to_do (Evaluate e ∷ m.frame.todo) m
 
--- the way that the first part says (C11 6.5.13 to 6.5.15)
+-- the branch that the first operand selects (C11 6.5.13 to 6.5.15)
 abbrev pub choose_form : Place → Form → State → Act State
 choose_form at (And a b) m = branch at (cell_at m 0) (λ holds. Goes (goes_on_to holds at b false (pop m)))
 choose_form at (Or a b) m = branch at (cell_at m 0) (λ holds. Goes (goes_on_to (not holds) at b true (pop m)))
@@ -188,11 +188,11 @@ choose_form at other m = Goes m
 abbrev pub choose : Typed → State → Act State
 choose (Of at ty form) m = choose_form at form m
 
--- the right part of `&&` or `||`: whether it holds shows, and is the value
+-- the right operand of `&&` or `||`: its truth value shows, and is the result
 abbrev pub judge : {Rest : Type 0} → Place → Running Rest → Act (Running Rest)
 judge at m = truth at (cell_at m 0) (λ holds. shows_then at (label.Truth holds) (Goes (push_cell (truth_cell holds) (pop m))))
 
--- the result of a call that is used was set (C11 6.9.1, paragraph 12)
+-- the result of a call that is used must have been set (C11 6.9.1, paragraph 12)
 abbrev pub use_result : {Rest : Type 0} → Place → Operand → Running Rest → Act (Running Rest)
 use_result at (Scalar cell) m = set_then at cell (Goes m)
 use_result at other m = Goes m

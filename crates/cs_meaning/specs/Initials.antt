@@ -1,4 +1,4 @@
--- What objects hold at first (C11 6.7.9): the pieces of an initializer by their offsets, and what constant expressions give.
+-- The initial contents of objects (C11 6.7.9): the pieces of an initializer by offset, and the values of constant expressions.
 use Rattle.std.specs.Prelude.{ℕ, ◌+◌, ◌-◌, ◌==◌, nat_lt, nat_le, ℤ, pos, ◌+ℤ◌, ◌*ℤ◌, neg_ℤ, int_lt, Bool, true, false, not}
 use Rattle.std.specs.Prelude.{◌&&◌, ◌||◌, List}
 use Rattle.std.specs.Prelude.{[], ◌∷◌, ◌++◌, take, length, slice_index_or, if◌then◌else◌}
@@ -22,13 +22,13 @@ pub data Piece : Type 0 where
   Spelled : (offset : ℕ) (bytes : List ℕ) → Piece
 
 abbrev mutual
-  -- the pieces of an initializer of an object of a type, which begins at an offset; a text gives as many bytes as fit
+  -- the pieces of an initializer of an object of a type, at an offset; of a text, as many bytes as fit
   pub pieces : TypedProgram → Shape → ℕ → Initial → List Piece
   pieces program shape from (Value value) = Evaluated from value ∷ []
   pieces program shape from (Bytes bytes) = Spelled from (take (count_of shape) bytes) ∷ []
   pieces program shape from (Parts parts) = pieces_from program shape from 0 parts
 
-  -- the same of its parts, from the one with a number on
+  -- the same for its parts, from the one with a number on
   pub pieces_from : TypedProgram → Shape → ℕ → ℕ → Initials → List Piece
   pieces_from program shape from number NoPart = []
   pieces_from program shape from number (Part first others) =
@@ -39,17 +39,17 @@ abbrev pub number_in : Cell → ℤ
 number_in (NumberCell n) = n
 number_in other = pos 0
 
--- whether a cell counts as true: a number other than 0, or a pointer other than null (C11 6.5.3.3, paragraph 5)
+-- whether a cell is true: a number other than 0, or a pointer other than null (C11 6.5.3.3, paragraph 5)
 abbrev pub is_set : Cell → Bool
 is_set (NumberCell n) = is_true n
 is_set (PointerCell object offset) = true
 is_set other = false
 
--- the cell of a truth
+-- the cell of a truth value
 abbrev pub truth_cell : Bool → Cell
 truth_cell holds = NumberCell (truth_number holds)
 
--- a pointer so many bytes further on; null stays null
+-- a pointer plus a number of bytes; null stays null
 abbrev pub further : Cell → ℕ → Cell
 further (PointerCell object offset) bytes = PointerCell object (offset +ℤ pos bytes)
 further other bytes = other
@@ -59,14 +59,14 @@ abbrev pub directed : Direction → ℤ → ℤ
 directed Forward n = n
 directed Back n = neg_ℤ n
 
--- an offset, or the nearer of the two bounds of offsets
+-- an offset, or the nearer bound of offsets if it is outside
 abbrev pub clamped : DataModel → ℤ → ℤ
 clamped model offset =
     if int_lt (pos (offset_bound_of model)) offset
     then pos (offset_bound_of model)
     else (if int_lt offset (neg_ℤ (pos (offset_bound_of model))) then neg_ℤ (pos (offset_bound_of model)) else offset)
 
--- a constant pointer moved by elements of so many bytes. No object reaches to the bounds: past one, each access is out of bounds
+-- a constant pointer plus an amount of elements of a size. No object extends to the bounds: past one, each access is out of bounds
 abbrev pub moved : DataModel → Cell → ℤ → ℕ → Cell
 moved model (PointerCell object offset) amount size = PointerCell object (clamped model (offset +ℤ amount *ℤ pos size))
 moved model other amount size = other
@@ -77,7 +77,7 @@ converted model (integer ty) (NumberCell n) = NumberCell (own_result model (oper
 converted model ty cell = cell
 
 abbrev mutual
-  -- the value of a constant expression (C11 6.6): each operation has its own result
+  -- the value of a constant expression (C11 6.6): each operation yields its own result
   pub constant : TypedProgram → Typed → Cell
   constant program (Of at ty form) = constant_form program ty form
 
@@ -113,7 +113,7 @@ zero_of other = NumberCell (pos 0)
 abbrev pub byte_cell : DataModel → Shape → ℕ → Cell
 byte_cell model scalar byte = NumberCell (wrapped model (integer_of scalar) (pos byte))
 
--- what a scalar at an offset holds by the pieces of a constant initializer; what these leave out is zero
+-- the cell that the pieces of a constant initializer determine for the scalar at an offset; zero if there is no piece for it
 abbrev pub initial_cell : TypedProgram → Shape → List Piece → ℕ → Cell
 initial_cell program scalar [] offset = zero_of scalar
 initial_cell program scalar (Evaluated from value ∷ others) offset =

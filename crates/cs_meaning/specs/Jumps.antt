@@ -1,4 +1,4 @@
--- Jumps (C11 6.8.6): what is still to be done where `break`, `continue` and `goto` lead.
+-- Jumps (C11 6.8.6): the things to do at the targets of `break`, `continue` and `goto`.
 use Rattle.std.specs.Prelude.{ℕ, ◌+◌, ◌==◌, List, [], ◌∷◌, Option, Some, None, if◌then◌else◌}
 use Rattle.cs_ast.specs.declared.place.Place.{Place}
 use Rattle.cs_ast.specs.TypedTree.{Statement, Block, Declare, Run, If, IfElse, While, Do, For, Switch, Goto, Label, Break, Continue, Return, Statements, Empty}
@@ -6,36 +6,36 @@ use Rattle.cs_ast.specs.TypedTree.{Then}
 use Rattle.cs_meaning.specs.Machine.{Item, Execute, Again, Out}
 use Rattle.cs_meaning.specs.CountedPoints.{counted_points, counted_points_in}
 
--- statements in their order, the first counted point of which has this number, before what is to be done then
+-- consecutive statements, the first counted point of which has this number, before the other things to do
 abbrev pub executes : Statements → ℕ → List Item → List Item
 executes Empty counted_point following = following
 executes (Then first others) counted_point following = Execute first counted_point ∷ executes others (counted_point + counted_points first) following
 
--- what is left after the nearest loop or `switch`
+-- the things to do after the nearest loop or `switch`
 abbrev pub broken_out : List Item → List Item
 broken_out [] = []
 broken_out (Out ∷ following) = following
 broken_out (item ∷ following) = broken_out following
 
--- what is left after the body of the nearest loop
+-- the things to do after the body of the nearest loop
 abbrev pub continued : List Item → List Item
 continued [] = []
 continued (Again s counted_point ∷ following) = Again s counted_point ∷ following
 continued (item ∷ following) = continued following
 
--- where a label stands: its counted point, its place, and what is to be done once it is reached
+-- a label: its counted point, its source position, and the things to do once it is reached
 pub record Landing : Type 0 where
   pub counted_point : ℕ
   pub at : Place
   pub todo : List Item
 
--- the first landing of two
+-- the first of two landings
 abbrev pub first_of_two : Option Landing → Option Landing → Option Landing
 first_of_two (Some landing) other = Some landing
 first_of_two None other = other
 
 abbrev mutual
-  -- where a label stands in a statement, the first counted point of which has this number, before what is to be done after the statement
+  -- the label in a statement, if it is there; `counted_point` numbers the statement's first counted point, `following` is to do after the statement
   pub landing : ℕ → Statement → ℕ → List Item → Option Landing
   landing wanted (Block at statements) counted_point following = landing_in wanted statements counted_point following
   landing wanted (Declare at declaration initial) counted_point following = None
@@ -59,7 +59,7 @@ abbrev mutual
   landing wanted (Continue at) counted_point following = None
   landing wanted (Return at value) counted_point following = None
 
-  -- the same in statements one after another
+  -- the same in consecutive statements
   pub landing_in : ℕ → Statements → ℕ → List Item → Option Landing
   landing_in wanted Empty counted_point following = None
   landing_in wanted (Then first others) counted_point following =

@@ -1,4 +1,4 @@
--- What operators do with their operands (C11 6.3, 6.5.3 to 6.5.10): what is checked, what shows, and what leads on.
+-- Operators on values (C11 6.3, 6.5.3 to 6.5.10): their checks, their events, and the results that a run continues with.
 use Rattle.std.specs.Prelude.{ℕ, ◌*◌, ℤ, pos, ◌+ℤ◌, ◌-ℤ◌, ◌*ℤ◌, neg_ℤ, int_le, int_lt, Bool, true, false, not, ◌&&◌, ◌||◌}
 use Rattle.std.specs.Prelude.{Option, Some, None, unwrap_or, if◌then◌else◌}
 use Rattle.std.specs.Ordering.{int_eq}
@@ -26,7 +26,7 @@ use Rattle.cs_meaning.specs.Initials.{number_in, further}
 use Rattle.cs_meaning.specs.Machine.{Operand, Scalar, Nothing}
 use Rattle.cs_meaning.specs.Access.{shows_then, look, not_null, ordered}
 
--- whether a type holds every number of another
+-- whether all numbers of a type are in another
 abbrev pub takes_all : DataModel → Shape → IntType → Bool
 takes_all model (integer from) to = holds_all_of model to from
 takes_all model other to = false
@@ -37,54 +37,54 @@ is_pointer NullCell = true
 is_pointer (PointerCell object offset) = true
 is_pointer other = false
 
--- the offsets of two pointers into one object
+-- the offsets of two pointers into the same object
 abbrev pub in_one_object : Cell → Cell → Option (ℤ × ℤ)
 in_one_object (PointerCell object offset) (PointerCell other further_on) = if same_object object other then Some (offset, further_on) else None
 in_one_object one other = None
 
--- the same, null being an object of its own
+-- the same, with null as an object of its own
 abbrev pub related : Cell → Cell → Option (ℤ × ℤ)
 related NullCell NullCell = Some (pos 0, pos 0)
 related one other = in_one_object one other
 
--- whether two pointers that don't point into one object are equal: both are null
+-- whether two pointers that don't point into the same object are equal: both are null
 abbrev pub both_null : Cell → Cell → Bool
 both_null NullCell NullCell = true
 both_null one other = false
 
--- whether a comparison asks for what is equal
+-- whether a comparison is for equality
 abbrev pub asks_equal : CmpOp → Bool
 asks_equal Equal = true
 asks_equal other = false
 
--- whether it asks for an order
+-- whether it is for order
 abbrev pub asks_order : CmpOp → Bool
 asks_order Equal = false
 asks_order Differs = false
 asks_order other = true
 
--- what an equality gives for what is the same, or isn't
+-- the result of `==` or `!=` for equal, or different, pointers
 abbrev pub equality_of : CmpOp → Bool → Bool
 equality_of operator same = if asks_equal operator then same else not same
 
--- a pointer so many bytes further on; unset where there is none
+-- a pointer plus a number of bytes; unset if it isn't a pointer
 abbrev pub pointed : Cell → ℕ → Cell
 pointed (PointerCell object from) offset = further (PointerCell object from) offset
 pointed other offset = UnsetCell
 
--- what stands for the offsets of pointers that don't point into one object
+-- a default for the offsets of pointers that don't point into the same object
 abbrev pub NO_OFFSETS : ℤ × ℤ
 NO_OFFSETS = (pos 0, pos 0)
 
 module _ {S : Type 0} where
-  -- whether a value counts as true: a number other than 0, or a pointer other than null (C11 6.8.4.1, paragraph 2)
+  -- whether a value is true: a number other than 0, or a pointer other than null (C11 6.8.4.1, paragraph 2)
   abbrev pub truth : Place → Cell → (Bool → Act S) → Act S
   truth at (NumberCell n) onward = onward (is_true n)
   truth at NullCell onward = shows_then at (label.Look false) (onward false)
   truth at (PointerCell object offset) onward = shows_then at (label.Look true) (onward true)
   truth at UnsetCell onward = onward false
 
-  -- a test: the way that it takes shows
+  -- a test: the branch that it takes shows
   abbrev pub branch : Place → Cell → (Bool → Act S) → Act S
   branch at cell onward = truth at cell (λ holds. Touches (Meets Branch at) (shows_then at (label.Branch holds) (onward holds)))
 
@@ -92,11 +92,11 @@ module _ {S : Type 0} where
   abbrev pub divide : Place → ℤ → Act S → Act S
   divide at divisor act = if int_eq divisor (pos 0) then Stops (Fault kind.Divide at) else act
 
-  -- a shift by a count below 0, or not below the width, is a fault (C11 6.5.7, paragraph 3)
+  -- a shift by a negative count, or one not less than the width, is a fault (C11 6.5.7, paragraph 3)
   abbrev pub shift : DataModel → Place → IntType → ℤ → Act S → Act S
   shift model at ty count act = if int_le (pos 0) count && int_lt count (pos (8 * bytes_of model ty)) then act else Stops (Fault kind.Shift at)
 
-  -- what an operator of two integers checks before it works
+  -- the check of a binary integer operator
   abbrev pub checked : DataModel → Place → BinOp → IntType → ℤ → Act S → Act S
   checked model at Div ty right act = divide at right act
   checked model at Rem ty right act = divide at right act
@@ -104,28 +104,28 @@ module _ {S : Type 0} where
   checked model at Shr ty right act = shift model at ty right act
   checked model at other ty right act = act
 
-  -- an operator of two integers
+  -- a binary integer operator
   abbrev pub operate : DataModel → Place → BinOp → IntType → ℤ → ℤ → (ℤ → Act S) → Act S
   operate model at operator ty left right onward = checked model at operator ty right (Asks at (operation.Binary operator ty left right) onward)
 
-  -- a conversion of a number of a type: it shows where the new type doesn't hold every number of the old one (C11 6.3.1.3)
+  -- a conversion of a number from a type: it shows unless all numbers of the old type are in the new one (C11 6.3.1.3)
   abbrev pub convert_number : DataModel → Place → Shape → IntType → ℤ → (ℤ → Act S) → Act S
   convert_number model at from to number onward = if takes_all model from to then onward number else Asks at (operation.Convert to number) onward
 
-  -- a conversion of a value of a type: only that of a number to an integer type changes it; of a void value nothing is left (C11 6.3.2.2)
+  -- a conversion of a value from a type: only that of a number to an integer type changes it; the result of one from `void` is nothing (C11 6.3.2.2)
   abbrev pub convert : DataModel → Place → Shape → Shape → Operand → (Operand → Act S) → Act S
   convert model at from void operand onward = onward Nothing
   convert model at from (integer ty) (Scalar (NumberCell n)) onward = convert_number model at from ty n (λ number. onward (Scalar (NumberCell number)))
   convert model at from other operand onward = onward operand
 
-  -- null moved by an amount other than 0 is a fault
+  -- moving null by an amount other than 0 is a fault
   abbrev pub unmoved : Place → ℤ → Act S → Act S
   unmoved at amount act = if int_eq amount (pos 0) then act else Stops (Fault kind.Null at)
 
   abbrev pub move_null : Place → ℤ → (Cell → Act S) → Act S
   move_null at amount onward = unmoved at amount (onward NullCell)
 
-  -- a pointer moved by an amount of elements of so many bytes: its offset stays within its bounds (C11 6.5.6, paragraph 8)
+  -- a pointer plus an amount of elements of a size: its offset stays within its bounds (C11 6.5.6, paragraph 8)
   abbrev pub sum : DataModel → Place → Cell → ℤ → ℕ → (Cell → Act S) → Act S
   sum model at NullCell amount size onward = shows_then at (label.Look false) (move_null at amount onward)
   sum model at (PointerCell object offset) amount size onward =
@@ -136,17 +136,17 @@ module _ {S : Type 0} where
   sum model at (NumberCell n) amount size onward = onward UnsetCell
   sum model at UnsetCell amount size onward = onward UnsetCell
 
-  -- two pointers compared for equality: offsets are compared where they point into one object (C11 6.5.9, paragraph 6)
+  -- two pointers compared for equality: offsets are compared if they point into the same object (C11 6.5.9, paragraph 6)
   abbrev pub equality : Place → CmpOp → Bool → Option (ℤ × ℤ) → (ℤ → Act S) → Act S
   equality at operator same None onward = shows_then at (label.Truth (equality_of operator same)) (onward (truth_number (equality_of operator same)))
   equality at operator same (Some offsets) onward = Asks at (operation.Compare operator offsets.0 offsets.1) onward
 
-  -- pointers that don't point into one object are a fault (C11 6.5.6, paragraph 9; 6.5.8, paragraph 5)
+  -- pointers that don't point into the same object are a fault (C11 6.5.6, paragraph 9; 6.5.8, paragraph 5)
   abbrev pub one_object : Place → Option (ℤ × ℤ) → Act S → Act S
   one_object at None act = Stops (Fault kind.Unrelated at)
   one_object at (Some offsets) act = act
 
-  -- what two pointers need one object for
+  -- an operation on two pointers that requires that they point into the same object
   abbrev pub in_relation : Place → Option (ℤ × ℤ) → (ℤ → ℤ → Act S) → Act S
   in_relation at found onward = one_object at found (onward (unwrap_or found NO_OFFSETS).0 (unwrap_or found NO_OFFSETS).1)
 
@@ -165,11 +165,11 @@ module _ {S : Type 0} where
       then compare_pointers at operator left right onward
       else Asks at (operation.Compare operator (number_in left) (number_in right)) onward
 
-  -- how many elements of so many bytes lie between two pointers (C11 6.5.6, paragraph 9)
+  -- the difference of two pointers, in elements of a size (C11 6.5.6, paragraph 9)
   abbrev pub difference : Place → Cell → Cell → ℕ → (ℤ → Act S) → Act S
   difference at left right size onward =
       look at left (look at right (in_relation at (related left right) (λ one other. Asks at (operation.Difference one other size) onward)))
 
-  -- the member at so many bytes of the object that a pointer points to (C11 6.5.2.3, paragraph 4)
+  -- the member at an offset of the object that a pointer points to (C11 6.5.2.3, paragraph 4)
   abbrev pub arrow : Place → Cell → ℕ → (Cell → Act S) → Act S
   arrow at cell offset onward = look at cell (not_null at cell (onward (pointed cell offset)))

@@ -14,12 +14,12 @@ use Rattle.cs_events.specs.Pending.{IsPending}
 use Rattle.cs_meaning.specs.Machine.{State}
 use Rattle.cs_meaning.specs.Steps.{step, start}
 
--- what a run begins with: the numbers of paths, and guesses
+-- the initial data of a run: the numbers of paths, and guesses
 pub record ProgramRun : Type 0 where
   pub inputs : List (Path × ℤ)
   pub guesses : List Guess
 
--- what the run of a program goes by
+-- the setting of the run of a program
 abbrev pub setting_of : TypedProgram → ProgramRun → RunBudgets → Setting
 setting_of program run budgets = record { model = program.model; inputs = number_at run.inputs; guesses = run.guesses; budgets = budgets }
 
@@ -27,15 +27,15 @@ setting_of program run budgets = record { model = program.model; inputs = number
 abbrev pub start_of : TypedProgram → ℕ → ProgramRun → State
 start_of program entry run = start program (number_at run.inputs) entry
 
--- the run ends so, with this log
+-- the run ends with this outcome and this log
 abbrev pub RunGives : TypedProgram → ℕ → ProgramRun → RunBudgets → Outcome → Log → Type 0
 RunGives program entry run budgets outcome log = Ends (step program budgets) (setting_of program run budgets) (start_of program entry run) outcome log
 
--- the run passes exactly these events and ends so
+-- the run passes exactly these events and ends with this outcome
 abbrev pub RunEnds : TypedProgram → ℕ → ProgramRun → RunBudgets → List Event → Outcome → Type 0
 RunEnds program entry run budgets events outcome = (log : Log) × RunGives program entry run budgets outcome log × (log.events ≡ events)
 
--- the run passes these events first
+-- these are the first events that the run passes
 abbrev pub RunPasses : TypedProgram → ℕ → ProgramRun → RunBudgets → List Event → Type 0
 RunPasses program entry run budgets events = Passes (step program budgets) (setting_of program run budgets) (start_of program entry run) events
 

@@ -1,4 +1,4 @@
--- The reference machine: what it does at each step, and how it begins.
+-- The reference machine: its steps, and how it begins.
 use Rattle.std.specs.Prelude.{ℕ, ◌+◌, ℤ, Bool, true, false, List, [], ◌∷◌, length, map, take, Option, Some, None, option_map, slice_get}
 use Rattle.cs_types.specs.declared.int_type.IntType.TheVariants.{Char}
 use Rattle.cs_types.specs.Shape.{integer, array}
@@ -22,11 +22,11 @@ use Rattle.cs_meaning.specs.Calls.{root_path, with_locals, new_frame, falls_off,
 use Rattle.cs_meaning.specs.Expressions.{evaluates, uses, act, fetch, choose, judge, use_result}
 use Rattle.cs_meaning.specs.Statements.{store_local, spell_local, execute, decide, turn, again}
 
--- what is to be done at the end of a function's body
+-- the things to do at the end of a function's body
 abbrev pub at_end : Routine → List Item
 at_end routine = End routine.closes (falls_off routine.returns) ∷ []
 
--- what the first thing to be done does, with the other things left to be done
+-- the act of the first thing to do, with the other things still to do
 abbrev pub do_item : TypedProgram → RunBudgets → Item → State → Act State
 do_item program budgets (Evaluate e) m = Goes (to_do (evaluates e (uses e m.frame.todo)) m)
 do_item program budgets (EvaluateUnused e) m = Goes (to_do (evaluates e m.frame.todo) m)
@@ -48,7 +48,7 @@ do_item program budgets (End at value) m = Touches (Meets point.End at) (Goes (t
 do_item program budgets (Give at) m = Touches (Meets point.Return at) (Goes (to_do (Leave ∷ []) m))
 do_item program budgets Leave m = leave (operand_at m 0) m
 
--- with nothing left to be done, as after a `break` that stands in no loop, the frame is left with a value that was never set
+-- with nothing left to do, as after a `break` outside of loops, the frame returns an unset value
 abbrev pub step_with : TypedProgram → RunBudgets → List Item → State → Act State
 step_with program budgets [] m = leave (Scalar UnsetCell) m
 step_with program budgets (item ∷ following) m = do_item program budgets item (to_do following m)
@@ -57,7 +57,7 @@ step_with program budgets (item ∷ following) m = do_item program budgets item 
 abbrev pub step : TypedProgram → RunBudgets → State → Act State
 step program budgets m = step_with program budgets m.frame.todo m
 
--- what a file-scope object holds at first: anything, but a const one its initializer, or zeros (C11 6.7.9, paragraph 10)
+-- the initial contents of a file-scope object: for a const one its initializer, or zeros (C11 6.7.9, paragraph 10); else inputs
 abbrev pub global_fill : TypedProgram → FileObject → Bool → Option Initial → Fill
 global_fill program object false initial = InputFill (root_path (root.Global object.name))
 global_fill program object true None = ZeroFill
@@ -80,11 +80,11 @@ static_memory program other = None
 abbrev pub parameter_path : Variable → Path
 parameter_path v = root_path (root.Param v.name)
 
--- what a parameter of an entry receives
+-- the initial cell of a parameter of an entry
 abbrev pub received : TypedProgram → (Path → ℤ) → Variable → Cell
 received program inputs v = input_cell program.model (parameter_path v) (input_kind v.ty) (inputs (parameter_path v))
 
--- memory with the blocks that come with an entry's parameters
+-- memory with the start blocks of an entry's parameters
 abbrev pub with_received : TypedProgram → (Path → ℤ) → List Variable → Memory → Memory
 with_received program inputs [] memory = memory
 with_received program inputs (v ∷ others) memory =

@@ -1,4 +1,4 @@
--- What the types of a program say of its memory: sizes, and what begins at an offset of an object.
+-- The layout of types in memory: sizes, and the objects that begin at an offset of an object.
 use Rattle.std.specs.Prelude.{ℕ, zero, suc, ◌-◌, ◌*◌, ◌%◌, ◌==◌, nat_lt, nat_le, Bool, true, false, ◌&&◌, ◌||◌, List, [], ◌∷◌}
 use Rattle.std.specs.Prelude.{map, Option, Some, None, option_map, unwrap_or, slice_get}
 use Rattle.cs_types.specs.declared.int_type.IntType.{IntType}
@@ -9,7 +9,7 @@ use Rattle.cs_types.specs.Layout.{Layout, Leaf, layout_of, leaf_of, members_of, 
 use Rattle.cs_ast.specs.TypedTree.{Typed, Of}
 use Rattle.cs_ast.specs.TypedProgram.{TypedProgram}
 
--- the bytes of a type; an incomplete one has none (C11 6.5.3.4)
+-- the size of a type; 0 for an incomplete one (C11 6.5.3.4)
 abbrev pub size_of : TypedProgram → Shape → ℕ
 size_of program shape = unwrap_or (option_map (λ (layout : Layout). layout.size) (layout_of program.model program.table shape)) 0
 
@@ -26,17 +26,17 @@ scalar_of program shape offset = leaf_of program.model program.table shape offse
 abbrev pub type_of : Typed → Shape
 type_of (Of at ty form) = ty
 
--- what a pointer points to (C11 6.2.5, paragraph 20)
+-- the type that a pointer points to (C11 6.2.5, paragraph 20)
 abbrev pub target_of : Shape → Shape
 target_of (pointer target) = target
 target_of other = void
 
--- what the block after a pointer to a type has elements of: after a `void *` these are bytes (C11 6.3.2.3)
+-- the element type of the block that a pointer to a type points to; for `void *` the elements are bytes (C11 6.3.2.3)
 abbrev pub element_of : Shape → Shape
 element_of void = integer UChar
 element_of other = other
 
--- the integer type that a type is
+-- a type as an integer type
 abbrev pub integer_of : Shape → IntType
 integer_of (integer ty) = ty
 integer_of other = Int
@@ -61,7 +61,7 @@ begins_in program in_struct (array element count) offset =
     nat_lt offset (count * size_of program element) && begins_in program in_struct element (offset % size_of program element)
 begins_in program in_struct (struct number) offset = in_struct number offset
 
--- whether a struct begins at an offset of another: at its beginning if they are one, or in the type of a member
+-- whether a struct begins at an offset of another: at its beginning if they are the same, or in the type of a member
 abbrev pub begins_in_struct : TypedProgram → ℕ → ℕ → ℕ → ℕ → Bool
 begins_in_struct program wanted zero number offset = false
 begins_in_struct program wanted (suc depth) number offset =
@@ -69,17 +69,17 @@ begins_in_struct program wanted (suc depth) number offset =
     nat_le m.offset offset && begins_in program (begins_in_struct program wanted depth) (m.ty) (offset - m.offset))
     (unwrap_or (members_of program.table number) [])
 
--- whether a scalar, if one was found, is of a type
+-- whether there is a scalar, and it has a type
 abbrev pub is_of : Shape → Option Shape → Bool
 is_of ty None = false
 is_of ty (Some found) = same_shape ty found
 
--- whether an object of the first type begins at an offset of one of the second: a scalar of that very type, or that struct
+-- whether an object of the first type begins at an offset of one of the second: a scalar of exactly that type, or that struct
 abbrev pub begins : TypedProgram → Shape → Shape → ℕ → Bool
 begins program (struct wanted) shape offset = begins_in program (begins_in_struct program wanted (complete_count program.table)) shape offset
 begins program scalar shape offset = is_of scalar (scalar_of program shape offset)
 
--- the type of a part of an array or of a struct, by its number, and where it begins (C11 6.7.9, paragraph 17)
+-- the type of a part of an array or of a struct, by its number, and its offset (C11 6.7.9, paragraph 17)
 abbrev pub part_type : TypedProgram → Shape → ℕ → Shape
 part_type program (array element count) number = element
 part_type program (struct tag) number = unwrap_or (option_map (λ (m : Member). m.ty) (slice_get (unwrap_or (members_of program.table tag) []) number)) void
@@ -90,7 +90,7 @@ part_offset program (array element count) number = number * size_of program elem
 part_offset program (struct tag) number = unwrap_or (option_map (λ (m : Member). m.offset) (slice_get (unwrap_or (members_of program.table tag) []) number)) 0
 part_offset program other number = 0
 
--- how many elements an array has (C11 6.7.6.2)
+-- the number of elements of an array (C11 6.7.6.2)
 abbrev pub count_of : Shape → ℕ
 count_of (array element count) = count
 count_of other = 0

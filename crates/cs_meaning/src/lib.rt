@@ -1,2 +1,2 @@
-//! What every accepted program means: the reference machine over typed trees, in `specs/`.
+//! The meaning of accepted programs: the reference machine over typed trees, in `specs/`.
 #![tactic(auto)]

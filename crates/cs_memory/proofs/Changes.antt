@@ -1,4 +1,4 @@
--- Changes of one object in a row: for the contracts of what writes several scalars.
+-- Successive changes of one object: for the contracts of what writes several scalars.
 use Rattle.std.proofs.Common.{◌≡◌, ◌⊎◌, inl, inr, ℕ, ◌+◌, Bool, true, false, List, [], ◌∷◌, Option, Some, None, refl, sym, ap}
 use Rattle.std.proofs.Common.{◌∙◌, arith}
 use Rattle.std.specs.Prelude.{option_map, unwrap_or, if◌then◌else◌}

@@ -1,4 +1,4 @@
--- The first change of a static object, which `get` lends: for the contract of `change_first`.
+-- The first change of a static object, which `get` borrows: for the contract of `change_first`.
 use Rattle.std.proofs.Common.{◌≡◌, ◌==◌, ℕ, Bool, true, false, List, Bor, Option, Some, None, refl, sym, ap, ◌∙◌, subst, arith}
 use Rattle.std.specs.Prelude.{option_copied, slice_get}
 use Rattle.std.specs.Slice.{IsItemAt}

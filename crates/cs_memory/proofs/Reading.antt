@@ -1,4 +1,4 @@
--- Scalars that are read in a row: for the contracts of `read_all` and `read_each`.
+-- Scalars that are read one after another: for the contracts of `read_all` and `read_each`.
 use Rattle.std.proofs.Common.{◌≡◌, ℕ, zero, suc, ◌<◌, length, get_or, arith, ◌+◌, List, [], ◌∷◌, ◌++◌, map, Some, drop}
 use Rattle.std.proofs.Common.{refl, sym, ap, ◌∙◌}
 use Rattle.std.proofs.Common.{append_assoc}

@@ -1,4 +1,4 @@
--- Rows of objects, one of which is changed: for the contracts of memory.
+-- Lists of objects, one of which is changed: for the contracts of memory.
 use Rattle.std.proofs.Common.{◌≡◌, ℕ, zero, suc, ◌<◌, ◌≤◌, ◌==◌, List, [], ◌∷◌, length, set, get_or, Some, Vec, refl}
 use Rattle.std.proofs.Common.{◌++◌, Bool, true, false, arith}
 use Rattle.std.specs.declared.alloc.Global.{Global}

@@ -1,4 +1,4 @@
--- The block after an unknown pointer is changed or added: for the contracts of `change_start` and `add_if_new`.
+-- The start block of an unknown pointer is changed or added: for the contracts of `change_start` and `add_if_new`.
 use Rattle.std.proofs.Common.{◌≡◌, Option, Some, None, true, false, cond, refl, sym, ap, ◌∙◌, subst}
 use Rattle.std.specs.Prelude.{option_map, if◌then◌else◌, IsSome, is_some}
 use Rattle.std.specs.BTreeMap.{BTreeMap, get_by, WritesThrough, Updates}

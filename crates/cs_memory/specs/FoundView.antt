@@ -1,4 +1,4 @@
--- What the interpreter finds in a scalar, seen as what the reference machine does.
+-- The interpreter's contents of scalars, seen as those of the reference machine.
 use Rattle.cs_meaning.specs.Memory as meaning
 use Rattle.cs_memory.specs.declared.found.ScalarContents.{ScalarContents}
 use Rattle.cs_memory.specs.declared.found.ScalarContents.TheVariants as found

@@ -13,11 +13,11 @@ use Rattle.std.specs.BTreeMap.{BTreeMap, get, is_at}
 use Rattle.cs_events.specs.Objects.{StartBlock, GlobalObject, LiteralObject, LocalObject, HeapBlock}
 use Rattle.cs_objects.specs.BlockView.{block_of, block_at}
 
--- the block after an unknown pointer with a path
+-- the start block of an unknown pointer with a path
 abbrev pub start_in : BTreeMap Path Block → Path → Option meaning.Block
 start_in starts path = option_map block_of (lookup (is_at (path_order path)) starts.entries)
 
--- a static object: as it was changed, or else as a run begins with it
+-- a static object: as it was changed, or else as at the beginning of a run
 abbrev pub changed_or : Option meaning.Block → Option meaning.Block → Option meaning.Block
 changed_or (Some block) otherwise = Some block
 changed_or None otherwise = otherwise
@@ -29,7 +29,7 @@ static_at changed row number = changed_or (option_map block_of (get nat_cmp chan
 abbrev pub local_in : List (Vec Block Global) → ℕ → ℕ → Option meaning.Block
 local_in frames frame declaration = option_and_then (λ (locals : Vec Block Global). block_at locals.items declaration) (slice_get frames frame)
 
--- the block of an allocation, of those from the first one on
+-- the block of an allocation, in the list of all allocations
 abbrev pub given_in : List (Option Block) → ℕ → Option meaning.Block
 given_in heap zero = None
 given_in heap (suc before) = option_and_then (λ (given : Option Block). option_map block_of given) (slice_get heap before)
@@ -42,11 +42,11 @@ memory_of memory (LiteralObject literal) = static_at memory.literals memory.prep
 memory_of memory (LocalObject frame declaration) = local_in memory.frames.items frame declaration
 memory_of memory (HeapBlock allocation) = given_in memory.heap.items allocation
 
--- a row with the object at a place changed, if it is there
+-- a list with the object at an index changed, if it exists
 abbrev pub changed_at : (meaning.Block → meaning.Block) → ℕ → (ℕ → Option meaning.Block) → ℕ → Option meaning.Block
 changed_at change at row n = if at == n then option_map change (row n) else row n
 
--- there are as many frames and allocations as there were
+-- the numbers of frames and allocations stay the same
 pub record KeepsCounts (old new : Memory) : Type 0 where
   pub frames : length new.frames.items ≡ length old.frames.items
   pub allocations : length new.heap.items ≡ length old.heap.items

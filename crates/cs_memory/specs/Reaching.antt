@@ -1,4 +1,4 @@
--- Words of touches, of what is read and written in a row, and of what is checked on the way to an object.
+-- Touches, reads and writes of several cells, and the checks on the way to an object.
 use Rattle.std.specs.Prelude.{◌≡◌, ℕ, ◌+◌, ℤ, pos, neg_ℤ, ◌-ℤ◌, List, [], ◌∷◌, unwrap_or}
 use Rattle.cs_types.specs.Shape.{Shape, void}
 use Rattle.cs_ast.specs.declared.place.Place.{Place}
@@ -19,18 +19,18 @@ load_touch frame place declaration = Loads frame declaration place
 abbrev pub store_touch : ℕ → Place → ℕ → Touch
 store_touch frame place declaration = Stores frame declaration place
 
--- the value of a scalar of an object, which was set
+-- the value of a scalar of an object, which must be set
 abbrev pub scalar_value : TypedProgram → Memory → Place → Object → ℕ → (Memory → Operand → Act State) → Act State
 scalar_value program memory at object offset onward =
     access.read program memory object offset (λ after cell. access.set_then at cell (onward after (Scalar cell)))
 
--- bytes of a text written from an offset on of an object of a type
+-- the bytes of a text written from an offset on in an object of a type
 abbrev pub spells : TypedProgram → Shape → ℕ → List ℕ → Block → Block
 spells program ty from [] block = block
 spells program ty from (byte ∷ bytes) block =
     spells program ty (from + 1) bytes (write_cell from (byte_cell program.model (unwrap_or (scalar_of program ty from) void) byte) block)
 
--- at offsets that are counted from another an object holds these cells: to read them takes no input
+-- an object holds these cells at offsets relative to `from`: reading them looks up no input
 abbrev pub HoldsAll : Memory → Object → ℕ → List ℕ → List Cell → Type 0
 HoldsAll memory object from offsets cells = (program : TypedProgram) (onward : Memory → List Cell → Act State)
     → access.read_all program memory object from offsets onward ≡ onward memory cells
@@ -40,7 +40,7 @@ abbrev pub struct_value : TypedProgram → Memory → Shape → Object → ℕ �
 struct_value program memory ty object offset onward =
     access.read_all program memory object offset (scalar_offsets program ty) (λ after cells. onward after (Whole cells))
 
--- an object that stands is reached in a type: the type's bytes lie within it, the offset shows, and such an object begins there
+-- access to a live object as one of a type: the type's bytes are within it, the offset shows, and such an object begins there
 abbrev pub reach_standing : TypedProgram → Place → Shape → Object → ℤ → Block → (ℕ → Act State) → Act State
 reach_standing program at ty object offset block onward =
     access.ordered at offset (pos 0)

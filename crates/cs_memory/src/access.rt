@@ -1,4 +1,4 @@
-//! Loads and stores (C11 6.3.2.1, 6.5.16): what is checked and shown on the way to an object, and what memory gives and keeps.
+//! Loads and stores (C11 6.3.2.1, 6.5.16): the checks and events on the way to an object, and what memory returns and keeps.
 ghost use Rattle.std.specs.Prelude.{◌≡◌, pos, neg_ℤ, ◌-ℤ◌, IfOk, OnOk, IfErr, IfSome, None, map};
 ghost use Rattle.cs_types.specs.Shape.{shape_of};
 ghost use Rattle.cs_ast.specs.TypedProgram.{HasLayouts, typed_program};
@@ -34,7 +34,7 @@ use cs_values::types::size_of;
 use cs_values::{Cell, Object, Operand};
 use std::alloc::AllocError;
 
-// An offset that isn't below 0.
+// Returns an offset as an unsigned number; 0 if it is negative.
 fn offset_number(offset: i128) -> Result<u64, AllocError>
     ensures { IfOk result (λ number. number ≡ loads.offset_number offset) }
 {
@@ -47,7 +47,7 @@ fn offset_number(offset: i128) -> Result<u64, AllocError>
     }
 }
 
-// The fault by which a block that was released refuses an access, if it does (C11 6.2.4, paragraph 2).
+// Returns the fault of an access to an object with a standing, if there is one (C11 6.2.4, paragraph 2).
 fn refused(standing: Standing) -> Option<Kind>
     ensures { (place : Place) (act : Act State)
         → loads.stands place standing act ≡ or_fault place result act }
@@ -59,7 +59,7 @@ fn refused(standing: Standing) -> Option<Kind>
     }
 }
 
-// The fault of an access to an object that isn't there: a local of a frame that has ended, or else nothing to access (C11 6.2.4,
+// Returns the fault of an access to an object that doesn't exist: a local of a frame that has ended, or else nothing to access (C11 6.2.4,
 // paragraph 2).
 fn missing(object: &Object) -> Kind
     ensures { (place : Place) (act : Act State)
@@ -97,7 +97,7 @@ fn begins_at(
     }
 }
 
-// How far an object's last byte lies after those of a type at its beginning, and whether an offset lies that far or less.
+// Returns the order test whether `size` bytes at an offset end within the object.
 fn ends_within(offset: i128, extent: u64, size: u64) -> Result<Operation, AllocError>
     ensures { IfOk result (λ test.
         test ≡ Operation.Order (neg_ℤ offset) (pos extent -ℤ pos size)) }
@@ -106,15 +106,15 @@ fn ends_within(offset: i128, extent: u64, size: u64) -> Result<Operation, AllocE
     Ok(Operation::Order(back, i128::from(extent) - i128::from(size)))
 }
 
-// The test whether an offset isn't below 0.
+// Returns the order test whether an offset is at least 0.
 fn begins_within(offset: i128) -> Operation
     ensures { result ≡ Operation.Order offset (pos 0) }
 {
     Operation::Order(offset, 0)
 }
 
-// An object that is there is reached in another type: it stands, the type's bytes lie within it, the offset shows, and such an
-// object begins there.
+// Accesses an existing object as one of another type: it must be live, the type's bytes must be within it, the offset shows, and such an
+// object must begin there.
 fn reach_block(
     log: &mut Log,
     setting: &Setting,
@@ -142,7 +142,7 @@ fn reach_block(
     }
 }
 
-// The same of one that stands.
+// The same for a live object.
 fn reach_standing(
     log: &mut Log,
     setting: &Setting,
@@ -175,7 +175,7 @@ fn reach_standing(
     }
 }
 
-// A load of a scalar local is a touch.
+// Records the touch of a load of a scalar local.
 fn touch_load(log: &mut Log, frame: u64, access: Access) -> Result<(), AllocError>
     ensures { OnOk result ((setting : SettingOfRun)
         → GoesOn setting log.old log.new
@@ -187,7 +187,7 @@ fn touch_load(log: &mut Log, frame: u64, access: Access) -> Result<(), AllocErro
     Ok(())
 }
 
-/// A store at a place to a scalar local is a touch.
+/// Records the touch of a store to a scalar local.
 pub fn touch_store(
     log: &mut Log,
     frame: u64,
@@ -203,7 +203,7 @@ pub fn touch_store(
     Ok(())
 }
 
-/// Whether a store to an object is a fault, whatever it holds: a const file-scope object or a string literal (C11 6.4.5, 6.7.3).
+/// Whether a store to an object is a fault: a const file-scope object or a string literal (C11 6.4.5, 6.7.3).
 pub fn is_constant(program: &Program, object: &Object) -> bool
     ensures { result ≡ meaning.is_constant (typed_program program.now) (object_of object.now) }
 {
@@ -218,7 +218,7 @@ pub fn is_constant(program: &Program, object: &Object) -> bool
 }
 
 impl<'a> Memory<'a> {
-    // An object that a pointer names is reached in another type, if it is there.
+    // Accesses the object of a pointer as one of another type, if it exists.
     fn reach_in(
         &self,
         log: &mut Log,
@@ -248,7 +248,7 @@ impl<'a> Memory<'a> {
         }
     }
 
-    // An object is reached through a pointer: it shows whether the pointer is null, which is a fault (C11 6.5.3.2, paragraph 4).
+    // Accesses an object through a pointer: it shows whether the pointer is null, which is a fault (C11 6.5.3.2, paragraph 4).
     fn reach<'p>(
         &self,
         log: &mut Log,
@@ -282,7 +282,7 @@ impl<'a> Memory<'a> {
         }
     }
 
-    // The object that is accessed, whose place has this value, and the offset there.
+    // Returns the object that is accessed, given its lvalue, and the offset there.
     fn locate<'p>(
         &self,
         log: &mut Log,
@@ -309,7 +309,7 @@ impl<'a> Memory<'a> {
         }
     }
 
-    // The value of a type that an object holds at an offset: a scalar that was set, or the scalars of a struct, set or not.
+    // Returns the value of a type at an offset of an object: a scalar, which must be set, or the scalars of a struct, set or not.
     fn value_at(
         &mut self,
         log: &mut Log,
@@ -342,7 +342,7 @@ impl<'a> Memory<'a> {
         }
     }
 
-    // The scalars of a struct, set or not.
+    // Returns the scalars of a struct, set or not.
     fn struct_value(
         &mut self,
         log: &mut Log,
@@ -368,7 +368,7 @@ impl<'a> Memory<'a> {
         Ok(Operand::Whole(cells))
     }
 
-    // The value of a scalar, which was set.
+    // Returns the value of a scalar, which must be set.
     fn scalar_value(
         &mut self,
         log: &mut Log,
@@ -395,7 +395,7 @@ impl<'a> Memory<'a> {
         Ok(Operand::Scalar(cell))
     }
 
-    // What the scalars of an object hold at offsets that are counted from another, in order.
+    // Returns the cells of an object at offsets relative to `from`, in order.
     fn read_all(
         &mut self,
         log: &mut Log,
@@ -422,7 +422,7 @@ impl<'a> Memory<'a> {
         }
     }
 
-    // What the scalars of an object hold at offsets that are counted from another, where all of them were written, and none between them.
+    // Returns the cells of an object at offsets relative to `from`, if all of them were written, and none between them.
     fn written_cells(
         &self,
         object: &Object,
@@ -469,7 +469,7 @@ impl<'a> Memory<'a> {
         Ok(cells)
     }
 
-    /// A load, in a frame, from the object whose place has this value.
+    /// Loads, in a frame, from the object with this lvalue.
     pub fn load(
         &mut self,
         log: &mut Log,
@@ -496,7 +496,7 @@ impl<'a> Memory<'a> {
         Ok(operand)
     }
 
-    /// A store at a place, in a frame, to the object whose place has this value.
+    /// Stores, by an operation at a source position, in a frame, to the object with this lvalue.
     pub fn store(
         &mut self,
         log: &mut Log,
@@ -529,7 +529,7 @@ impl<'a> Memory<'a> {
     }
 }
 
-// A variable, or a member of one.
+// Returns the object and the offset of a variable, or of a member of one.
 fn direct<'p>(
     log: &Log,
     setting: &Setting,
@@ -553,7 +553,7 @@ fn direct<'p>(
     }
 }
 
-/// The fault by which a scalar that was never set refuses a use, if it does.
+/// Returns the fault of a use of a scalar, if it is unset.
 pub fn refused_use(cell: &Cell) -> Option<Kind>
     ensures { (place : Place) (act : Act State)
         → loads.set_then place (cell_of cell.now) act ≡ or_fault place result act }

@@ -1,4 +1,4 @@
-//! What is found in a scalar of memory.
+//! Contents of scalars in memory.
 ghost use Rattle.std.specs.Prelude.{◌≡◌, IfOk, OnOk, IfErr, Some, None, if◌then◌else◌};
 ghost use Rattle.cs_ast.specs.TypedProgram.{HasLayouts, typed_program};
 ghost use Rattle.cs_meaning.specs.Memory as meaning;
@@ -21,7 +21,7 @@ use cs_run_log::{Log, Stop};
 use cs_values::{Cell, Object};
 use std::alloc::AllocError;
 
-/// What is found in a scalar.
+/// The contents of a scalar.
 #[derive(Drop)]
 pub enum ScalarContents<'a> {
     Holds(Cell),
@@ -29,7 +29,7 @@ pub enum ScalarContents<'a> {
     Unknown(Path, BlockType<'a>),
 }
 
-// Where an offset lies in an object's type: a start or heap block has one element after the other, without an end.
+// Returns the position of an offset in an object's type: a start or heap block is a sequence of elements.
 fn position(
     program: &Program,
     object: &Object,
@@ -56,8 +56,8 @@ fn position(
     }
 }
 
-/// Where an offset lies in an object's type, if the object has cells: a start or heap block has none where its elements have no
-/// bytes.
+/// Returns the position of an offset in an object's type, if the object has cells: a start or heap block has none if its elements have
+/// size 0.
 pub fn cell_position(
     program: &Program,
     object: &Object,
@@ -86,14 +86,14 @@ pub fn cell_position(
     }
 }
 
-// The rest of an offset by the bytes of an element, if it has any.
+// Returns an offset modulo the size of an element, if that isn't 0.
 fn rest_of(offset: u64, bytes: u64) -> u64
     ensures { result ≡ meaning.rest_of offset bytes }
 {
     if bytes == 0 { offset } else { offset % bytes }
 }
 
-// The scalar that begins at an offset of an object.
+// Returns the scalar that begins at an offset of an object.
 fn scalar_at<'a>(
     program: &'a Program,
     object: &Object,
@@ -110,7 +110,7 @@ fn scalar_at<'a>(
     Ok(found.unwrap_or(BlockType::Void))
 }
 
-// What a fill gives a scalar at an offset.
+// Returns the contents that a fill determines for a scalar at an offset.
 fn filled<'a>(
     program: &Program,
     fill: &Fill,
@@ -136,7 +136,7 @@ fn filled<'a>(
     }
 }
 
-// The path of a cell below another path.
+// Returns the path of a cell below another path.
 fn cell_path(root: &Path, offset: u64) -> Result<Path, AllocError>
     ensures { IfOk result (λ path. path ≡ meaning.cell_path root.now offset) }
 {
@@ -145,7 +145,7 @@ fn cell_path(root: &Path, offset: u64) -> Result<Path, AllocError>
     Ok(path)
 }
 
-// What is found in an object that is there.
+// Returns the contents of an existing object at an offset.
 fn found_in<'a>(
     program: &'a Program,
     object: &Object,
@@ -170,7 +170,7 @@ fn found_in<'a>(
 }
 
 impl<'a> Memory<'a> {
-    // What is found in an object at an offset.
+    // Returns the contents of an object at an offset.
     fn found(
         &self,
         program: &'a Program,
@@ -188,7 +188,7 @@ impl<'a> Memory<'a> {
         }
     }
 
-    /// What was found in a scalar: an input is looked up.
+    /// Returns the cell of a scalar's contents: an input is looked up.
     pub fn receive(
         &mut self,
         log: &mut Log,
@@ -215,7 +215,7 @@ impl<'a> Memory<'a> {
         }
     }
 
-    // The value of an input that is looked up.
+    // Looks up an input, and returns its cell.
     fn look_up(
         &mut self,
         log: &mut Log,
@@ -239,7 +239,7 @@ impl<'a> Memory<'a> {
         Ok(cell)
     }
 
-    /// What a scalar of an object holds.
+    /// Returns the cell of a scalar of an object.
     pub fn read(
         &mut self,
         log: &mut Log,

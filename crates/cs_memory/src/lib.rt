@@ -1,4 +1,4 @@
-//! The memory of a run, and the loads and stores that go to it.
+//! The memory of a run, with loads and stores.
 #![tactic(auto, using(cs_run_log::proofs::Performing::silent))]
 
 pub mod access;

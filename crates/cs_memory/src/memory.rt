@@ -1,4 +1,4 @@
-//! The memory of a run: its objects, and what their scalars hold.
+//! The memory of a run: its objects, and the contents of their scalars.
 ghost use Rattle.std.specs.Prelude.{◌≡◌, ◌==◌, ◌&&◌, ◌+◌, ℕ, [], length, None, if◌then◌else◌, option_map, option_copied, OnOk};
 ghost use Rattle.std.specs.BTreeMap.{get};
 ghost use Rattle.std.specs.Ordering.{nat_cmp};
@@ -19,24 +19,24 @@ use cs_values::Object;
 use std::alloc::{AllocError, Global};
 use std::collections::BTreeMap;
 
-/// The objects that are there, released blocks among them, each kind with the numbers that name it.
+/// The existing objects, including freed blocks, of each kind by their numbers.
 #[derive(Drop)]
 pub struct Memory<'a> {
-    /// The blocks after unknown pointers, by the pointers' paths.
+    /// The start blocks of unknown pointers, by the pointers' paths.
     pub starts: BTreeMap<Path, Block<'a>>,
-    /// What the program's runs share: among it the file-scope objects and string literals that weren't changed.
+    /// Data that all runs of the program share, including the file-scope objects and string literals that weren't changed.
     pub prepared: &'a Prepared<'a>,
-    /// The file-scope objects that were changed, by their numbers, and the string literals.
+    /// The changed file-scope objects, by their numbers, and the changed string literals.
     pub globals: BTreeMap<u32, Block<'a>>,
     pub literals: BTreeMap<u32, Block<'a>>,
-    /// The locals of each frame by its number; a frame that has ended has none.
+    /// The locals of each frame, by its number; a frame that has ended has none.
     pub frames: Vec<Vec<Block<'a>>>,
-    /// What each allocation gave, from the first one on.
+    /// The block of each allocation, from the first one on; `None` if it returned none.
     pub heap: Vec<Option<Block<'a>>>,
 }
 
 impl<'a> Memory<'a> {
-    /// The memory with which runs begin, before the first frame.
+    /// Returns the memory at the beginning of a run, before the first frame.
     pub fn new(alloc: Global, prepared: &'a Prepared<'a>) -> Memory<'a>
         ensures memory { memory_of result ≡ statics_of prepared.now }
         ensures frames { result.frames.items ≡ [] }
@@ -52,7 +52,7 @@ impl<'a> Memory<'a> {
         }
     }
 
-    /// What is known of an object.
+    /// Returns an object, if it exists.
     pub fn block(&self, object: &Object) -> Option<&Block<'a>>
         ensures { option_map block_of (option_copied result)
             ≡ memory_of self.now (object_of object.now) }
@@ -75,7 +75,7 @@ impl<'a> Memory<'a> {
         }
     }
 
-    /// Changes an object, if it is there.
+    /// Changes an object, if it exists.
     pub fn change(&mut self, object: &Object, change: Change<'a>) -> Result<(), AllocError>
         ensures memory { OnOk result
             (memory_of self.new ≡ meaning.changed (change_of change.entry) (object_of object.now)
@@ -108,7 +108,7 @@ impl<'a> Memory<'a> {
         Ok(())
     }
 
-    /// Adds the block after an unknown pointer with a path, unless it is there.
+    /// Adds the start block of an unknown pointer with a path, unless it exists.
     pub fn add_start(&mut self, path: Path, block: Block<'a>) -> Result<(), AllocError>
         ensures memory { OnOk result
             (memory_of self.new ≡ meaning.with_new_block (StartBlock path) (block_of block.entry)
@@ -119,7 +119,7 @@ impl<'a> Memory<'a> {
         Ok(())
     }
 
-    /// Adds what one more allocation gave.
+    /// Adds the block of a further allocation.
     pub fn allocate(&mut self, block: Block<'a>) -> Result<(), AllocError>
         ensures memory { OnOk result
             (memory_of self.new ≡ meaning.with_block (HeapBlock (length self.old.heap.items + 1))
@@ -133,7 +133,7 @@ impl<'a> Memory<'a> {
         Ok(())
     }
 
-    /// Counts one more allocation, which gave none.
+    /// Counts a further allocation that returned no block.
     pub fn allocate_none(&mut self) -> Result<(), AllocError>
         ensures memory { OnOk result (memory_of self.new ≡ memory_of self.old) }
         ensures allocations { OnOk result
@@ -145,7 +145,7 @@ impl<'a> Memory<'a> {
         Ok(())
     }
 
-    /// Adds the locals of one more frame.
+    /// Adds the locals of a new frame.
     pub fn add_frame(&mut self, locals: Vec<Block<'a>>) -> Result<(), AllocError>
         ensures memory { OnOk result
             (memory_of self.new ≡ with_frame (length self.old.frames.items)
@@ -159,7 +159,7 @@ impl<'a> Memory<'a> {
         Ok(())
     }
 
-    /// A frame has ended: its locals are there no more (C11 6.2.4, paragraph 2).
+    /// Ends the lifetime of the locals of a frame (C11 6.2.4, paragraph 2).
     pub fn end_frame(&mut self, frame: u64)
         ensures memory { memory_of self.new ≡ without_locals frame (memory_of self.old) }
         ensures counts { KeepsCounts self.old self.new }
@@ -170,14 +170,14 @@ impl<'a> Memory<'a> {
     }
 }
 
-// Drops all objects of a row.
+// Drops all objects of a list.
 fn clear(row: &mut Vec<Block>)
     ensures { row.new.items ≡ [] }
 {
     *row = Vec::new(*row.allocator());
 }
 
-// Adds the block after an unknown pointer, unless it is there.
+// Adds the start block of an unknown pointer, unless it exists.
 fn add_if_new<'a>(
     starts: &mut BTreeMap<Path, Block<'a>>,
     path: Path,
@@ -198,7 +198,7 @@ fn add_if_new<'a>(
     }
 }
 
-// Changes the block after an unknown pointer, if it is there.
+// Changes the start block of an unknown pointer, if it exists.
 fn change_start<'a>(
     starts: &mut BTreeMap<Path, Block<'a>>,
     path: &Path,
@@ -216,7 +216,7 @@ fn change_start<'a>(
     }
 }
 
-// A static object: as it was changed, or else as a run begins with it.
+// Returns a static object: as it was changed, or else as at the beginning of a run.
 fn static_in<'m, 'a>(
     changed: &'m BTreeMap<u32, Block<'a>>,
     row: &'m [Block<'a>],
@@ -230,7 +230,7 @@ fn static_in<'m, 'a>(
     }
 }
 
-// Changes a static object, if it is there.
+// Changes a static object, if it exists.
 fn change_static<'a>(
     changed: &mut BTreeMap<u32, Block<'a>>,
     row: &[Block<'a>],
@@ -247,7 +247,7 @@ fn change_static<'a>(
     }
 }
 
-// Changes a static object for the first time, if it is there.
+// Changes a static object for the first time, if it exists.
 fn change_first<'a>(
     changed: &mut BTreeMap<u32, Block<'a>>,
     row: &[Block<'a>],
@@ -270,7 +270,7 @@ fn change_first<'a>(
     }
 }
 
-// Changes the object at a place of a row, if it is there.
+// Changes the object at an index of a list, if it exists.
 fn change_at<'a>(row: &mut Vec<Block<'a>>, at: usize, change: Change<'a>) -> Result<(), AllocError>
     ensures { OnOk result ((n : ℕ)
         → block_at row.new.items n
@@ -282,7 +282,7 @@ fn change_at<'a>(row: &mut Vec<Block<'a>>, at: usize, change: Change<'a>) -> Res
     Ok(())
 }
 
-// Changes a local of a frame, if it is there.
+// Changes a local of a frame, if it exists.
 fn change_local<'a>(
     frames: &mut Vec<Vec<Block<'a>>>,
     frame: usize,
@@ -302,7 +302,7 @@ fn change_local<'a>(
     Ok(())
 }
 
-// Changes the block of an allocation, if it gave one.
+// Changes the block of an allocation, if it returned one.
 fn change_given<'a>(
     heap: &mut Vec<Option<Block<'a>>>,
     allocation: u64,
@@ -319,7 +319,7 @@ fn change_given<'a>(
     Ok(())
 }
 
-// Changes a block, if it was given.
+// Changes a block, if there is one.
 fn change_if_given<'a>(given: &mut Option<Block<'a>>, change: Change<'a>) -> Result<(), AllocError>
     ensures { OnOk result (option_map block_of given.new
         ≡ option_map (change_of change.entry) (option_map block_of given.old)) }

@@ -1,4 +1,4 @@
-//! The block that comes with a pointer that is an input.
+//! The block to which a pointer that is an input points.
 ghost use Rattle.std.specs.Prelude.{◌≡◌, IfOk, OnOk};
 ghost use Rattle.cs_types.specs.Shape.{shape_of, pointer};
 ghost use Rattle.cs_ast.specs.TypedProgram.{HasLayouts, typed_program};
@@ -18,7 +18,7 @@ use cs_types::{CType, start_extent};
 use cs_values::Cell;
 use std::alloc::{AllocError, Global};
 
-// The bytes of the block after an unknown pointer: so many elements, or as many as such a block has.
+// Returns the size of the start block of an unknown pointer: `count` elements, or the default number.
 fn start_bytes(program: &Program, element: BlockType, count: Option<u64>) -> Result<u64, AllocError>
     requires { HasLayouts program.now }
     ensures { IfOk result (λ bytes.
@@ -36,7 +36,7 @@ fn start_bytes(program: &Program, element: BlockType, count: Option<u64>) -> Res
     }
 }
 
-// The block after an unknown pointer with a path.
+// Returns the start block of an unknown pointer with a path.
 fn start_block<'a>(
     alloc: Global,
     program: &'a Program,
@@ -55,8 +55,8 @@ fn start_block<'a>(
 }
 
 impl<'a> Memory<'a> {
-    /// A scalar with a path has this cell: the block after a pointer is there from now on. It has so many elements where that is
-    /// known.
+    /// Adds the start block of a pointer, when the scalar with a path has this cell and it is a pointer. The block has `count` elements if that
+    /// is known.
     pub fn open(
         &mut self,
         program: &'a Program,
@@ -79,7 +79,7 @@ impl<'a> Memory<'a> {
         }
     }
 
-    // The same of a scalar of a type of the program.
+    // The same for a scalar of a type of the program.
     fn open_type(
         &mut self,
         program: &'a Program,
@@ -103,7 +103,7 @@ impl<'a> Memory<'a> {
         }
     }
 
-    // The same of a pointer to a type.
+    // The same for a pointer to a type.
     fn open_target(
         &mut self,
         program: &'a Program,
@@ -126,7 +126,7 @@ impl<'a> Memory<'a> {
         }
     }
 
-    // The block after a pointer to a type is there from now on.
+    // Adds the start block of a pointer to a type.
     fn open_block(
         &mut self,
         program: &'a Program,

@@ -52,7 +52,7 @@ impl<'a> Memory<'a> {
         }
     }
 
-    // Writes the scalars of a struct from an offset on, one at each of the given offsets.
+    // Writes the scalars of a struct at offsets relative to `from`.
     fn write_cells(
         &mut self,
         object: &Object,
@@ -76,7 +76,7 @@ impl<'a> Memory<'a> {
         Ok(())
     }
 
-    /// Writes bytes of a text from an offset on, each in the scalar that begins there (C11 6.7.9, paragraph 14).
+    /// Writes the bytes of a text from an offset on, each in the scalar that begins there (C11 6.7.9, paragraph 14).
     pub fn write_bytes(
         &mut self,
         program: &'a Program,
@@ -127,7 +127,7 @@ impl<'a> Memory<'a> {
     }
 }
 
-// The cell of a byte of a text, in the scalar that begins at an offset of a type.
+// Returns the cell of a byte of a text, for the scalar that begins at an offset of a type.
 fn spelled(program: &Program, ty: BlockType, at: u64, byte: u8) -> Result<Cell, AllocError>
     requires { HasLayouts program.now }
     ensures { IfOk result (λ cell.

@@ -17,7 +17,7 @@ kind_name Shift = codes "shift"
 kind_name Unrelated = codes "unrelated"
 kind_name ConstWrite = codes "const-write"
 
--- the number of a kind, by which kinds are ordered
+-- the number of a kind, used to order kinds
 abbrev pub kind_number : Kind → ℕ
 kind_number Null = 1
 kind_number Divide = 2

@@ -1,4 +1,4 @@
-//! The kinds of faults, in the one table that everything else about kinds is read from.
+//! The kinds of faults, in the one table from which everything else about kinds is derived.
 ghost use Rattle.std.specs.Prelude.{◌≡◌, codes};
 ghost use Rattle.cs_model.specs.Kinds.{kind_name, kind_number};
 
@@ -9,7 +9,7 @@ pub enum Kind {
     Null,
     /// A division or a remainder by zero (C11 6.5.5, paragraph 5).
     Divide,
-    /// The use of a value that was never set.
+    /// The use of an unset value.
     Unset,
     /// An access outside its object, or a pointer that leaves the range of offsets.
     Bounds,
@@ -17,11 +17,11 @@ pub enum Kind {
     DoubleFree,
     /// An access to a freed block.
     Freed,
-    /// `free` of what no allocation gave.
+    /// `free` of a pointer that isn't the beginning of a block that can be freed.
     BadFree,
     /// An access to a local of a frame that has ended.
     DeadLocal,
-    /// A shift by a negative count or by one that is no less than the width.
+    /// A shift by a negative count, or by one not less than the width.
     Shift,
     /// An order or a difference of pointers into different objects.
     Unrelated,
@@ -30,7 +30,7 @@ pub enum Kind {
 }
 
 impl Kind {
-    /// The word for this kind in reports and on the command line.
+    /// Returns the word for this kind in reports and on the command line.
     pub fn name(self) -> &'static str
         ensures { result.now ≡ kind_name self }
     {
@@ -49,7 +49,7 @@ impl Kind {
         }
     }
 
-    /// The number by which kinds are ordered, from 1.
+    /// Returns the number used to order kinds, from 1.
     pub fn number(self) -> u8
         ensures { result ≡ kind_number self }
     {

@@ -1,4 +1,4 @@
-//! What the whole program says of faults and objects: the kinds of faults, the states of objects, and the text of a place.
+//! Vocabulary of the whole program: the kinds of faults, the standing of objects, and the text of a source position.
 #![tactic(auto)]
 
 pub mod kind;

@@ -1,6 +1,6 @@
-//! What a run has done so far to the objects that it reaches or frees.
+//! The standing of objects in a run.
 
-/// Whether an object is there (C11 6.2.4).
+/// Whether the lifetime of an object has ended (C11 6.2.4).
 #[derive(Clone, Copy, PartialEq, Eq, Debug)]
 pub enum Standing {
     Live,
@@ -10,10 +10,10 @@ pub enum Standing {
     Ended,
 }
 
-/// What a pointer that is freed names (C11 7.22.3.3).
+/// What a freed pointer points to (C11 7.22.3.3).
 #[derive(Clone, Copy, PartialEq, Eq, Debug)]
 pub enum Freeable {
-    /// A local, a global or a string literal: nothing that can be freed.
+    /// A local, a file-scope object or a string literal: it can't be freed.
     Fixed,
     /// A block that was not freed.
     Live,

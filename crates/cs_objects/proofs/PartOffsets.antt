@@ -1,4 +1,4 @@
--- The scalars of a type are those of its parts, one part after the other: for the contract of `type_offsets`.
+-- The scalars of a type are those of its parts, in order: for the contract of `type_offsets`.
 use Rattle.std.proofs.Common.{◌≡◌, ℕ, zero, suc, ◌+◌, ◌-◌, ◌<◌, List, [], ◌∷◌, ◌++◌, map, length, Option, Some, None, refl, sym}
 use Rattle.std.proofs.Common.{ap, ◌∙◌}
 use Rattle.std.proofs.Common.{append_assoc, arith}

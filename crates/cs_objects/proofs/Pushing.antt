@@ -1,4 +1,4 @@
--- Lists that get one more element at their end: for the contracts of what is made by a loop.
+-- Lists with one more element at their end: for the contracts of what a loop builds.
 use Rattle.std.proofs.Common.{◌≡◌, List, [], ◌∷◌, ◌++◌, map, refl, ap}
 
 -- one more in a list that is seen as another

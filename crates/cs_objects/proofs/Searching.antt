@@ -1,4 +1,4 @@
--- Pieces that rise, and the one that is nearest to an offset: for the contracts of `ascend` and `nearest`.
+-- Ascending pieces, and the one nearest to an offset: for the contracts of `ascend` and `nearest`.
 use Rattle.std.proofs.Common.{◌≡◌, ℕ, zero, suc, ◌<◌, ◌≤◌, Bool, true, false, List, [], ◌∷◌, map, length, take, drop, get_or, refl, sym}
 use Rattle.std.proofs.Common.{◌∙◌, arith}
 use Rattle.std.specs.Prelude.{nat_le, ◌&&◌, IsTrue}

@@ -1,4 +1,4 @@
--- Statements that have others in a row, and arguments: for every function that goes over statements, or counts arguments.
+-- Statements that contain lists of others, and arguments: for every function that traverses statements, or counts arguments.
 use Rattle.std.proofs.Common.{◌≡◌, ℕ, ◌+◌, Option, List, [], ◌∷◌, length, Vec, Global, refl, ap, ◌∙◌, arith}
 use Rattle.cs_ast.specs.declared.typed.expression.Expr.{Expr}
 use Rattle.cs_ast.specs.declared.typed.statement.Case.{Case}

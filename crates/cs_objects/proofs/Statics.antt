@@ -1,4 +1,4 @@
--- The static objects as runs begin with them: for the contract of `Prepared::new`.
+-- The static objects at the beginning of runs: for the contract of `Prepared::new`.
 use Rattle.std.proofs.Common.{◌≡◌, ℕ, zero, suc, List, [], ◌∷◌, map, Some, refl, ap}
 use Rattle.std.specs.Prelude.{option_map, slice_get}
 use mathlib.Core.Path.{fun_ext}

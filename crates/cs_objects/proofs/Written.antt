@@ -1,4 +1,4 @@
--- Scalars that were written in a row: for the contract of `written_cells`.
+-- Consecutive scalars that were written: for the contract of `written_cells`.
 use Rattle.std.proofs.Common.{◌≡◌, ℕ, ◌<◌, length, get_or, ◌+◌, List, [], ◌∷◌, ◌++◌, map, take, Option, Some}
 use Rattle.std.proofs.Common.{sym, ap, ◌∙◌}
 use Rattle.std.specs.Prelude.{option_map}

@@ -1,4 +1,4 @@
--- What the interpreter knows of an access, seen as what the reference machine does.
+-- The interpreter's view of an access, as that of the reference machine.
 use Rattle.cs_types.specs.Shape.{shape_of}
 use Rattle.cs_meaning.specs.Access as access
 use Rattle.cs_objects.specs.declared.access.Access.{Access}

@@ -1,4 +1,4 @@
--- Objects, their types, and what their scalars hold, seen as those of the reference machine.
+-- Objects, their types, and the contents of their scalars, seen as those of the reference machine.
 use Rattle.std.specs.Prelude.{ℕ, List, map, Option, option_map, slice_get}
 use Rattle.std.specs.BTreeMap.{get}
 use Rattle.std.specs.Ordering.{nat_cmp}
@@ -31,14 +31,14 @@ abbrev pub piece_of : Piece → initials.Piece
 piece_of (piece.Value offset e) = initials.Evaluated offset (typed e.now)
 piece_of (piece.Text offset bytes) = initials.Spelled offset bytes.now
 
--- what scalars hold that were not written
+-- the contents of scalars that weren't written
 abbrev pub fill_of : Fill → meaning.Fill
 fill_of fill.Unset = meaning.UnsetFill
 fill_of fill.Zero = meaning.ZeroFill
 fill_of (fill.Initial initializer) = meaning.InitialFill (map piece_of initializer.pieces.items)
 fill_of (fill.Input path) = meaning.InputFill path
 
--- what was written at an offset
+-- the cell that was written at an offset, if any
 abbrev pub written_at : Block → ℕ → Option Cell
 written_at block offset = option_map cell_of (get nat_cmp block.written offset)
 
@@ -52,12 +52,12 @@ block_of block = record {
   written = written_at block;
 }
 
--- what happens to an object
+-- a change of an object
 abbrev pub change_of : Change → meaning.Block → meaning.Block
 change_of (change.Write offset cell) block = meaning.write_cell offset (cell_of cell) block
 change_of (change.Refill fill) block = meaning.refill (fill_of fill) block
 change_of (change.Stand standing) block = meaning.stand standing block
 
--- an object of a row
+-- an object of a list
 abbrev pub block_at : List Block → ℕ → Option meaning.Block
 block_at row at = option_map block_of (slice_get row at)

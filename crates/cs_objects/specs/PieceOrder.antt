@@ -3,7 +3,7 @@ use Rattle.std.specs.Prelude.{ℕ, ◌+◌, nat_le, Bool, true, ◌&&◌, List, 
 use Rattle.cs_objects.specs.declared.blocks.Piece.{Piece}
 use Rattle.cs_objects.specs.declared.blocks.Piece.TheVariants as piece
 
--- where a piece begins, and the first offset after it
+-- the offset of a piece, and the first offset after it
 abbrev pub start_of : Piece → ℕ
 start_of (piece.Value offset e) = offset
 start_of (piece.Text offset bytes) = offset
@@ -12,7 +12,7 @@ abbrev pub end_of : Piece → ℕ
 end_of (piece.Value offset e) = offset + 1
 end_of (piece.Text offset bytes) = offset + length bytes.now
 
--- whether pieces begin at an offset or after it, and each ends before the next one begins
+-- whether pieces begin at or after an offset, and each ends before the next one begins
 abbrev pub ascends_from : ℕ → List Piece → Bool
 ascends_from from [] = true
 ascends_from from (piece ∷ pieces) = nat_le from (start_of piece) && ascends_from (end_of piece) pieces

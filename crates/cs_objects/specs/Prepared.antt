@@ -1,4 +1,4 @@
--- What the runs of a program share.
+-- Data that all runs of a program share.
 use Rattle.std.specs.Prelude.{◌≡◌, ℕ, ◌<◌, ◌^◌, nat_le, List, length, Option, None, Some, option_map, slice_get, if◌then◌else◌, Vec}
 use Rattle.std.specs.Option.{option_and_then}
 use Rattle.std.specs.declared.alloc.Global.{Global}
@@ -15,12 +15,12 @@ use Rattle.cs_objects.specs.declared.prepared.Offsets.TheVariants.{Shared, Owned
 use Rattle.cs_objects.specs.declared.settings.Setting.{Setting}
 use Rattle.cs_objects.specs.BlockView.{block_at}
 
--- offsets, whoever owns them
+-- offsets, prepared or computed
 abbrev pub offsets_in : Offsets → List ℕ
 offsets_in (Shared offsets) = offsets.now
 offsets_in (Owned offsets) = offsets.items
 
--- the offsets of a row of structs at the number of one
+-- the offsets of the struct with a number, in a list
 abbrev pub offsets_in_row : List (Option (Vec ℕ Global)) → ℕ → Option (List ℕ)
 offsets_in_row row tag = option_and_then (λ (offsets : Option (Vec ℕ Global)). option_map (λ (found : Vec ℕ Global). found.items) offsets)
     (slice_get row tag)
@@ -28,23 +28,23 @@ offsets_in_row row tag = option_and_then (λ (offsets : Option (Vec ℕ Global))
 abbrev pub offsets_at : Prepared → ℕ → Option (List ℕ)
 offsets_at prepared tag = offsets_in_row prepared.offsets.items tag
 
--- the offsets of a struct's scalars, where it has no more than 2^15 bytes
+-- the offsets of a struct's scalars, if it has at most 2^15 bytes
 abbrev pub prepared_offsets : TypedProgram → ℕ → Option (List ℕ)
 prepared_offsets program tag = if nat_le (size_of program (struct tag)) (2 ^ 15) then Some (scalar_offsets program (struct tag)) else None
 
--- the objects that runs begin with
+-- the objects at the beginning of runs
 abbrev pub statics_of : Prepared → meaning.Memory
 statics_of prepared (GlobalObject global) = block_at prepared.globals.items global
 statics_of prepared (LiteralObject literal) = block_at prepared.literals.items literal
 statics_of prepared other = None
 
--- what the runs of a program share: the objects that they begin with, and the offsets of the structs' scalars
+-- the data shared by all runs of a program: the objects at their beginning, and the offsets of the structs' scalars
 pub record IsPrepared (prepared : Prepared) (program : Program) : Type 0 where
   pub objects : statics_of prepared ≡ static_memory (typed_program program)
   pub count : length prepared.offsets.items ≡ length program.table.list
   pub offsets : (tag : ℕ) → tag < length program.table.list → offsets_at prepared tag ≡ prepared_offsets (typed_program program) tag
 
--- the program's structs are laid out, and what its runs share is prepared
+-- the program's structs are laid out, and the shared data of its runs is prepared
 pub record IsReady (setting : Setting) : Type 0 where
   pub laid_out : HasLayouts setting.program.now
   pub prepared : IsPrepared setting.prepared.now setting.program.now

@@ -1,4 +1,4 @@
-//! What a load or a store needs to know of the expression that names an object.
+//! Accesses: what a load or a store needs to know of the expression that designates an object.
 ghost use Rattle.std.specs.Prelude.{◌≡◌};
 ghost use Rattle.cs_types.specs.Shape.{shape_of};
 ghost use Rattle.cs_ast.specs.TypedView.{typed};
@@ -10,18 +10,18 @@ use cs_ast::Place;
 use cs_ast::typed::expression::{Expr, ExprKind};
 use cs_types::CType;
 
-/// What a load or a store needs to know of the expression that names an object.
+/// What a load or a store needs to know of the expression that designates an object.
 #[derive(Clone, Copy)]
 pub struct Access<'a> {
     pub place: Place,
     pub ty: &'a CType,
-    /// Whether the expression names a variable, or a member of one: such an object is reached without a check.
+    /// Whether the expression is a variable, or a member of one: such an object is accessed without a check.
     pub direct: bool,
-    /// The scalar local that it names, if it names one.
+    /// The declaration of the scalar local that it designates, if it is one.
     pub local: Option<u32>,
 }
 
-/// The access to the object that an expression names.
+/// Returns the access to the object that an expression designates.
 pub fn access_of(e: &Expr) -> Access<'_>
     ensures { access_of result ≡ loads.access_of (typed e.now) }
 {
@@ -33,7 +33,7 @@ pub fn access_of(e: &Expr) -> Access<'_>
     }
 }
 
-// Whether an expression names a variable, or a member of one.
+// Whether an expression is a variable, or a member of one.
 fn is_direct(e: &Expr) -> bool
     ensures { result ≡ loads.is_direct (typed e.now) }
 {
@@ -64,7 +64,7 @@ pub fn is_scalar(ty: &CType) -> bool
     }
 }
 
-// The declaration that an expression names, if it is a scalar local of the function.
+// Returns the declaration that an expression designates, if it is a scalar local of the function.
 fn scalar_local(e: &Expr) -> Option<u32>
     ensures { result ≡ loads.scalar_local (typed e.now) }
 {

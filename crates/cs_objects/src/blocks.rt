@@ -1,4 +1,4 @@
-//! What is known of an object: its type, its bytes, whether it is there, and what its scalars hold.
+//! Objects: type, size, standing, and the contents of their scalars.
 ghost use Rattle.std.specs.Prelude.{◌≡◌, ◌+◌, map, Some, IfSome, IfOk, OnOk};
 ghost use Rattle.cs_values.specs.View.{cell_of};
 ghost use Rattle.cs_meaning.specs.Memory as meaning;
@@ -19,9 +19,9 @@ pub enum BlockType<'a> {
     Of(&'a CType),
     /// An integer type.
     Integer(IntType),
-    /// Characters, so many of them.
+    /// An array of characters, with this length.
     Text(u64),
-    /// None.
+    /// No type.
     Void,
 }
 
@@ -32,7 +32,7 @@ pub enum Piece<'a> {
     Text(u64, &'a [u8]),
 }
 
-/// What an object's scalars hold where they were not written.
+/// The contents of an object's scalars that weren't written.
 #[derive(Drop)]
 pub enum Fill<'a> {
     Unset,
@@ -46,27 +46,27 @@ pub enum Fill<'a> {
 #[derive(Drop)]
 pub struct Block<'a> {
     pub ty: BlockType<'a>,
-    /// How many bytes it has.
+    /// The size in bytes.
     pub extent: u64,
     pub standing: Standing,
     pub fill: Fill<'a>,
-    /// What was written, by the scalars' offsets.
+    /// The cells that were written, by offset.
     pub written: BTreeMap<u64, Cell>,
 }
 
-/// What happens to an object.
+/// A change of an object.
 #[derive(Drop)]
 pub enum Change<'a> {
     /// A scalar at an offset is written.
     Write(u64, Cell),
-    /// All scalars hold what a fill gives.
+    /// All scalars get the contents of a fill.
     Refill(Fill<'a>),
-    /// It is there, or is there no more.
+    /// The standing changes: it is live, freed or ended.
     Stand(Standing),
 }
 
 impl<'a> Fill<'a> {
-    /// The same once more.
+    /// Returns a copy of the fill.
     pub fn copy(&self) -> Result<Fill<'a>, AllocError>
         ensures { IfOk result (λ made. fill_of made ≡ fill_of self.now) }
     {
@@ -86,7 +86,7 @@ impl<'a> Fill<'a> {
 }
 
 impl<'a> Block<'a> {
-    /// An object that is there and was not written.
+    /// Returns a live object to which nothing was written.
     pub fn new(alloc: Global, ty: BlockType<'a>, extent: u64, fill: Fill<'a>) -> Block<'a>
         ensures { block_of result ≡ meaning.new_block (type_of ty.entry) extent
             (fill_of fill.entry) }
@@ -100,7 +100,7 @@ impl<'a> Block<'a> {
         }
     }
 
-    /// The same object once more.
+    /// Returns a copy of the object.
     pub fn copy(&self) -> Result<Block<'a>, AllocError>
         ensures { IfOk result (λ made. block_of made ≡ block_of self.now) }
     {
@@ -115,7 +115,7 @@ impl<'a> Block<'a> {
         })
     }
 
-    /// What was written at offsets that are counted from another, in order; nothing unless all of them were, and none between them.
+    /// Returns the cells written at offsets relative to `from`, in order; `None` unless all of them were written, and none between them.
     pub fn written_cells(
         &self,
         alloc: Global,
@@ -127,7 +127,7 @@ impl<'a> Block<'a> {
             ≡ map (λ cell. Some (cell_of cell)) cells.items)) }
     {
         let mut cells = Vec::with_capacity(alloc, offsets.len())?;
-        // Entries that stand in a row are found without a search for each.
+        // Consecutive entries are found without a search for each.
         let mut entries = self.written.range(from..);
         for offset in offsets {
             let Some((at, cell)) = entries.next() else {
@@ -169,7 +169,7 @@ impl<'a> Block<'a> {
         }
     }
 
-    // Makes all scalars hold what a fill gives.
+    // Gives all scalars the contents of a fill.
     fn refill(&mut self, fill: Fill<'a>)
         ensures { block_of self.new ≡ meaning.refill (fill_of fill.entry) (block_of self.old) }
     {

@@ -1,4 +1,4 @@
-//! Counted points: the loop heads and the labels of a body, numbered as they stand there.
+//! Counted points: the loop heads and the labels of a body, numbered in file order.
 ghost use Rattle.std.specs.Prelude.{◌≡◌, ◌+◌, IfOk};
 ghost use Rattle.cs_ast.specs.TypedView.{statement, statement_list};
 ghost use Rattle.cs_meaning.specs.CountedPoints as meaning;
@@ -6,7 +6,7 @@ ghost use Rattle.cs_meaning.specs.CountedPoints as meaning;
 use cs_ast::typed::statement::{Stmt, StmtKind};
 use std::alloc::AllocError;
 
-/// How many loop heads and labels there are in a statement.
+/// Returns the number of loop heads and labels in a statement.
 #[cycle(counted_points)]
 pub fn counted_points(s: &Stmt) -> Result<u64, AllocError>
     ensures { IfOk result (λ count. count ≡ meaning.counted_points (statement s.now)) }
@@ -47,7 +47,7 @@ pub fn counted_points(s: &Stmt) -> Result<u64, AllocError>
     }
 }
 
-/// How many there are in statements one after another.
+/// Returns their number in consecutive statements.
 #[cycle(counted_points)]
 pub fn counted_points_in(statements: &[Stmt]) -> Result<u64, AllocError>
     ensures { IfOk result (λ count.
@@ -61,7 +61,7 @@ pub fn counted_points_in(statements: &[Stmt]) -> Result<u64, AllocError>
     Ok(count)
 }
 
-/// So many counted points and so many more.
+/// Returns the sum of two numbers of counted points.
 pub fn together(some: u64, more: u64) -> Result<u64, AllocError>
     ensures { IfOk result (λ all. all ≡ some + more) }
 {

@@ -1,4 +1,4 @@
-//! Constant initializers, in which the piece of a scalar is found by search (C11 6.7.9).
+//! Constant initializers, in which the piece of a scalar is found by binary search (C11 6.7.9).
 ghost use Rattle.std.specs.Prelude.{true, IsTrue, if◌then◌else◌};
 ghost use Rattle.cs_objects.specs.PieceOrder.{ascends_from};
 
@@ -12,7 +12,7 @@ use std::alloc::AllocError;
 #[derive(Drop)]
 pub struct Initializer<'a> {
     pub pieces: Vec<Piece<'a>>,
-    // Whether each piece ends before the next one begins. It is so in every initializer of a well-formed program.
+    // Whether each piece ends before the next one begins. This holds for every initializer of a well-formed program.
     pub ascends: bool,
     ghost order: { IsTrue (if ascends then ascends_from 0 pieces.items else true) },
 }
@@ -24,7 +24,7 @@ impl<'a> Initializer<'a> {
     ghost use Rattle.cs_values.specs.View.{cell_of};
     ghost use Rattle.cs_objects.specs.BlockView.{type_of, piece_of};
 
-    /// The initializer with these pieces.
+    /// Returns the initializer with these pieces.
     pub fn new(pieces: Vec<Piece<'a>>) -> Initializer<'a>
         ensures { result.pieces ≡ pieces.entry }
     {
@@ -32,7 +32,7 @@ impl<'a> Initializer<'a> {
         Initializer { pieces, ascends }
     }
 
-    /// The same initializer once more.
+    /// Returns a copy of the initializer.
     pub fn copy(&self) -> Result<Initializer<'a>, AllocError>
         ensures { IfOk result (λ made. made.pieces.items ≡ self.now.pieces.items) }
     {
@@ -43,7 +43,7 @@ impl<'a> Initializer<'a> {
         })
     }
 
-    /// What a scalar at an offset holds; what the pieces leave out is zero.
+    /// Returns the cell of the scalar at an offset; where there is no piece, it is zero.
     pub fn cell(
         &self,
         program: &Program,

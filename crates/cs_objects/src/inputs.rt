@@ -1,4 +1,4 @@
-//! What inputs give: the cell of a scalar by its path's number, and what the block after a pointer has elements of.
+//! Values of inputs: the cell of a scalar by its path's number, and the element type of the block that a pointer points to.
 ghost use Rattle.std.specs.Prelude.{◌≡◌, pos, IfOk, if◌then◌else◌};
 ghost use Rattle.cs_types.specs.Shape.{shape_of};
 ghost use Rattle.cs_events.specs.Objects.{StartBlock, NumberCell, NullCell, PointerCell};
@@ -16,7 +16,7 @@ use cs_values::arithmetic::is_true;
 use cs_values::{Cell, Object};
 use std::alloc::AllocError;
 
-/// What an input of a scalar type gives.
+/// Returns the kind of an input of a scalar type.
 pub fn input_kind(scalar: BlockType) -> InputKind
     ensures { result ≡ inputs.input_kind (type_of scalar.entry) }
 {
@@ -28,7 +28,7 @@ pub fn input_kind(scalar: BlockType) -> InputKind
     }
 }
 
-// What an input of a type of the program gives.
+// Returns the kind of an input of a type of the program.
 fn typed_kind(ty: &CType) -> InputKind
     ensures { result ≡ inputs.input_kind (shape_of ty.now) }
 {
@@ -41,8 +41,8 @@ fn typed_kind(ty: &CType) -> InputKind
     }
 }
 
-/// The cell that the number of an input gives: the number, or 0 where the type doesn't hold it; null for 0, else a block of its
-/// own.
+/// Returns the cell for the number of an input: the number, or 0 if it isn't in the type; for a pointer null if it is 0, else a pointer to
+/// a block of its own.
 pub fn input_cell(
     model: DataModel,
     path: &Path,
@@ -60,7 +60,7 @@ pub fn input_cell(
     }
 }
 
-// The value of a scalar of an integer type.
+// Returns the cell of an integer type.
 fn integer_cell(model: DataModel, ty: IntType, number: &i128) -> Cell
     ensures { cell_of result ≡ NumberCell
         (if inputs.lies_in (operations.numbers_of model ty) number.now
@@ -73,7 +73,7 @@ fn integer_cell(model: DataModel, ty: IntType, number: &i128) -> Cell
     }
 }
 
-// The value of a pointer.
+// Returns the cell of a pointer.
 fn pointer_cell(path: &Path, number: &i128) -> Result<Cell, AllocError>
     ensures { IfOk result (λ cell. cell_of cell
         ≡ (if operations.is_true number.now then PointerCell (StartBlock path.now) (pos 0)
@@ -87,7 +87,7 @@ fn pointer_cell(path: &Path, number: &i128) -> Result<Cell, AllocError>
     }
 }
 
-/// What the block after a pointer to a type has elements of: after a `void *` these are bytes (C11 6.3.2.3).
+/// Returns the element type of the block that a pointer to a type points to; for `void *` the elements are bytes (C11 6.3.2.3).
 pub fn element_of(target: &CType) -> BlockType<'_>
     ensures { type_of result ≡ types.element_of (shape_of target.now) }
 {

@@ -1,4 +1,4 @@
-//! What is known of a program and of its objects before it runs.
+//! A program and its objects, as prepared before it runs.
 #![tactic(auto, using(cs_values::proofs::Casts::casts))]
 
 pub mod access;

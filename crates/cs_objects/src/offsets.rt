@@ -1,4 +1,4 @@
-//! Where the scalars of a type lie.
+//! The offsets of the scalars in a type.
 ghost use Rattle.std.specs.Prelude.{◌≡◌, ◌++◌, ◌∷◌, [], OnOk, IfOk};
 ghost use Rattle.cs_types.specs.Shape.{shape_of, array};
 ghost use Rattle.cs_ast.specs.TypedProgram.{HasLayouts, typed_program};
@@ -11,7 +11,7 @@ use cs_types::{CType, Member};
 use cs_values::types::size_of;
 use std::alloc::AllocError;
 
-/// The offsets of a type's scalars, in order (C11 6.7.2.1).
+/// Returns the offsets of a type's scalars, in order (C11 6.7.2.1).
 pub fn type_offsets(program: &Program, ty: &CType) -> Result<Vec<u64>, AllocError>
     requires { HasLayouts program.now }
     ensures { IfOk result (λ offsets.
@@ -22,7 +22,7 @@ pub fn type_offsets(program: &Program, ty: &CType) -> Result<Vec<u64>, AllocErro
     Ok(made)
 }
 
-// Adds the offsets of the scalars of a type that begins at an offset. More levels of types in one another are want of memory.
+// Adds the offsets of the scalars of a type at an offset. Types nested too deep count as out of memory.
 #[cycle(offsets)]
 fn push_offsets(
     program: &Program,
@@ -56,7 +56,7 @@ fn push_one(offset: u64, made: &mut Vec<u64>) -> Result<(), AllocError>
     Ok(())
 }
 
-// Adds those of an array with so many elements of a type.
+// Adds the offsets of an array with `count` elements of a type.
 #[cycle(offsets)]
 fn push_elements(
     program: &Program,
@@ -77,7 +77,7 @@ fn push_elements(
     while left > 0 {
         let before = made.len();
         push_offsets(program, levels, element, at, made)?;
-        // Elements without scalars may be many.
+        // An array of elements without scalars may be very long.
         if made.len() == before {
             return Ok(());
         }
@@ -87,7 +87,7 @@ fn push_elements(
     Ok(())
 }
 
-// Adds those of the members of a struct.
+// Adds the offsets of the members of a struct.
 #[cycle(offsets)]
 fn push_members(
     program: &Program,

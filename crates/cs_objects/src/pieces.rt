@@ -1,4 +1,4 @@
-//! The pieces of an initializer (C11 6.7.9), and what an object holds by those of a constant one.
+//! The pieces of an initializer (C11 6.7.9), and the contents of an object with a constant one.
 ghost use Rattle.std.specs.Prelude.{◌≡◌, ◌+◌, ◌++◌, ◌∷◌, List, map, take, nat_le, IsTrue, IfSome, IfOk, OnOk};
 ghost use Rattle.cs_types.specs.Shape.{Shape, struct};
 ghost use Rattle.cs_ast.specs.TypedProgram.{HasLayouts, TypedProgram, typed_program};
@@ -19,7 +19,7 @@ use cs_values::Cell;
 use cs_values::constants::{constant, integer_of};
 use std::alloc::{AllocError, Global};
 
-/// The pieces of an initializer of an object of a type.
+/// Returns the pieces of an initializer of an object of a type.
 pub fn pieces<'a>(
     alloc: Global,
     program: &'a Program,
@@ -36,7 +36,7 @@ pub fn pieces<'a>(
     Ok(made)
 }
 
-// Adds the pieces of an initializer of an object of a type, which begins at an offset.
+// Adds the pieces of an initializer of an object of a type, at an offset.
 #[cycle(pieces)]
 fn push_pieces<'a>(
     program: &'a Program,
@@ -89,7 +89,7 @@ fn push_parts<'a>(
 }
 
 impl<'a> BlockType<'a> {
-    // How many elements an array has (C11 6.7.6.2).
+    // Returns the number of elements of an array (C11 6.7.6.2).
     fn count(self) -> u64
         ensures { result ≡ types.count_of (type_of self.entry) }
     {
@@ -105,7 +105,7 @@ impl<'a> BlockType<'a> {
         }
     }
 
-    // The type of a part of an array or of a struct, by its number (C11 6.7.9, paragraph 17).
+    // Returns the type of a part of an array or of a struct, by its number (C11 6.7.9, paragraph 17).
     fn part(self, program: &'a Program, number: u64) -> BlockType<'a>
         ensures { type_of result ≡ types.part_type (typed_program program.now)
             (type_of self.entry) number }
@@ -122,7 +122,7 @@ impl<'a> BlockType<'a> {
         }
     }
 
-    // Where a part of an array or of a struct begins.
+    // Returns the offset of a part of an array or of a struct.
     fn part_offset(self, program: &'a Program, number: u64) -> Result<u64, AllocError>
         requires { HasLayouts program.now }
         ensures { IfOk result (λ offset.
@@ -144,7 +144,7 @@ impl<'a> BlockType<'a> {
     }
 }
 
-// The type of a member of a struct.
+// Returns the type of a member of a struct.
 fn member_type<'a>(program: &'a Program, tag: u32, number: u64) -> BlockType<'a>
     ensures { type_of result ≡ types.part_type (typed_program program.now) (struct tag) number }
 {
@@ -157,7 +157,7 @@ fn member_type<'a>(program: &'a Program, tag: u32, number: u64) -> BlockType<'a>
     }
 }
 
-// Where a member of a struct begins.
+// Returns the offset of a member of a struct.
 fn member_offset(program: &Program, tag: u32, number: u64) -> u64
     ensures { result ≡ types.part_offset (typed_program program.now) (struct tag) number }
 {
@@ -170,7 +170,7 @@ fn member_offset(program: &Program, tag: u32, number: u64) -> u64
     }
 }
 
-// At most so many bytes of a text.
+// Returns at most `count` bytes of the beginning of a text.
 fn beginning(bytes: &[u8], count: u64) -> &[u8]
     ensures { result.now ≡ take count bytes.now }
 {
@@ -181,7 +181,7 @@ fn beginning(bytes: &[u8], count: u64) -> &[u8]
     }
 }
 
-/// Whether pieces rise: each ends before the next one begins.
+/// Whether pieces ascend: each ends before the next one begins.
 pub fn ascend(pieces: &[Piece]) -> bool
     ensures { IsTrue result → IsTrue (ascends_from 0 pieces.now) }
 {
@@ -195,7 +195,7 @@ pub fn ascend(pieces: &[Piece]) -> bool
     true
 }
 
-/// Of pieces that rise, the last one that begins at an offset or before it, if one does.
+/// Returns, of ascending pieces, the last one that begins at or before an offset, if there is one.
 pub fn nearest<'p, 'a>(pieces: &'p [Piece<'a>], offset: u64) -> &'p [Piece<'a>]
     requires { IsTrue (ascends_from 0 pieces.now) }
     ensures { (program : TypedProgram) (scalar : Shape)
@@ -215,7 +215,7 @@ pub fn nearest<'p, 'a>(pieces: &'p [Piece<'a>], offset: u64) -> &'p [Piece<'a>]
 }
 
 impl<'a> Piece<'a> {
-    // Where a piece begins.
+    // Returns the offset of a piece.
     fn start(&self) -> u64
         ensures { result ≡ start_of self.now }
     {
@@ -225,7 +225,7 @@ impl<'a> Piece<'a> {
         }
     }
 
-    // The first offset after a piece, if the piece begins at an offset or after it.
+    // Returns the first offset after a piece, if the piece begins at or after an offset.
     fn end_from(&self, from: u64) -> Option<u64>
         ensures { IfSome result (λ end.
             IsTrue (nat_le from (start_of self.now)) × (end ≡ end_of self.now)) }
@@ -240,7 +240,7 @@ impl<'a> Piece<'a> {
     }
 }
 
-/// What a scalar at an offset holds by the pieces of a constant initializer; what these leave out is zero.
+/// Returns the cell that the pieces of a constant initializer determine for the scalar at an offset; it is zero if there is no piece for it.
 pub fn initial_cell(
     program: &Program,
     scalar: BlockType,
@@ -260,7 +260,7 @@ pub fn initial_cell(
     Ok(zero_of(scalar))
 }
 
-// What a scalar at an offset holds by a piece, if the piece is of it.
+// Returns the cell that a piece determines for the scalar at an offset, if the piece covers it.
 fn piece_cell(
     program: &Program,
     scalar: BlockType,
@@ -296,7 +296,7 @@ fn piece_cell(
     }
 }
 
-/// The zero of a scalar: 0, or a null pointer (C11 6.7.9, paragraph 10).
+/// Returns the zero of a scalar: 0, or a null pointer (C11 6.7.9, paragraph 10).
 pub fn zero_of(scalar: BlockType) -> Cell
     ensures { cell_of result ≡ initials.zero_of (type_of scalar.entry) }
 {
@@ -310,7 +310,7 @@ pub fn zero_of(scalar: BlockType) -> Cell
     }
 }
 
-/// The cell of a byte of a text, in a scalar of a character type.
+/// Returns the cell of a byte of a text, in a scalar of a character type.
 pub fn byte_cell(model: DataModel, scalar: BlockType, byte: u8) -> Cell
     ensures { cell_of result ≡ initials.byte_cell model (type_of scalar.entry) byte }
 {
@@ -318,7 +318,7 @@ pub fn byte_cell(model: DataModel, scalar: BlockType, byte: u8) -> Cell
 }
 
 impl<'a> BlockType<'a> {
-    // The integer type that the type is.
+    // Returns the type as an integer type.
     fn integer(self) -> IntType
         ensures { result ≡ types.integer_of (type_of self.entry) }
     {

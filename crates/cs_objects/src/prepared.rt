@@ -1,4 +1,4 @@
-//! What the runs of a program share: its static objects as a run begins with them, and where the scalars of its structs lie.
+//! Data that all runs of a program share: its static objects at the beginning of a run, and the offsets of the scalars of its structs.
 ghost use Rattle.std.specs.Prelude.{◌≡◌, ◌<◌, ℕ, length, option_map, IfOk, map};
 ghost use Rattle.cs_types.specs.Shape.{shape_of};
 ghost use Rattle.cs_ast.specs.TypedProgram.{HasLayouts, typed_program, file_object};
@@ -20,25 +20,25 @@ use cs_values::paths::root_path;
 use cs_values::types::size_of;
 use std::alloc::{AllocError, Global};
 
-/// What the runs of a program share. It is made once for the program.
+/// Data that all runs of a program share. It is made once for the program.
 #[derive(Drop)]
 pub struct Prepared<'a> {
-    /// The file-scope objects as a run begins with them.
+    /// The file-scope objects at the beginning of a run.
     pub globals: Vec<Block<'a>>,
     /// The string literals.
     pub literals: Vec<Block<'a>>,
-    /// The offsets of the scalars of each struct of the program's table, in order; none for a large one.
+    /// The offsets of the scalars of each struct of the program's table, in order; `None` for a large struct.
     pub offsets: Vec<Option<Vec<u64>>>,
 }
 
-/// Offsets of scalars: those of a struct that was prepared, or others.
+/// Offsets of scalars: the prepared ones of a struct, or computed ones.
 #[derive(Drop)]
 pub enum Offsets<'a> {
     Shared(&'a [u64]),
     Owned(Vec<u64>),
 }
 
-// The most bytes of a struct whose offsets are prepared. A larger one has more than 4,096 scalars, so that no program assigns it as a
+// The largest size of a struct whose offsets are prepared. A larger one has more than 4,096 scalars, so that no program assigns it as a
 // whole, and its offsets would take much memory.
 const PREPARED_BYTES: u64 = 1 << 15;
 
@@ -58,7 +58,7 @@ impl<'a> Prepared<'a> {
         })
     }
 
-    // The offsets of the scalars of a struct, if they were prepared.
+    // Returns the offsets of the scalars of a struct, if they were prepared.
     fn offsets_of(&self, tag: u32) -> Option<&[u64]>
         ensures { option_map (λ offsets. offsets.now) result ≡ offsets_at self.now tag }
     {
@@ -70,7 +70,7 @@ impl<'a> Prepared<'a> {
 }
 
 impl<'a> Offsets<'a> {
-    /// The offsets, in order.
+    /// Returns the offsets, in order.
     pub fn as_slice(&self) -> &[u64]
         ensures { result.now ≡ offsets_in self.now }
     {
@@ -81,7 +81,7 @@ impl<'a> Offsets<'a> {
     }
 }
 
-/// The offsets of a type's scalars, in order (C11 6.7.2.1).
+/// Returns the offsets of a type's scalars, in order (C11 6.7.2.1).
 pub fn scalar_offsets<'a>(setting: &Setting<'a>, ty: &CType) -> Result<Offsets<'a>, AllocError>
     requires { IsReady setting.now }
     ensures { IfOk result (λ offsets.
@@ -97,7 +97,7 @@ pub fn scalar_offsets<'a>(setting: &Setting<'a>, ty: &CType) -> Result<Offsets<'
     Ok(Offsets::Owned(offsets))
 }
 
-// The offsets of the scalars of each struct of the program's table.
+// Returns the offsets of the scalars of each struct of the program's table.
 fn struct_offsets(alloc: Global, program: &Program) -> Result<Vec<Option<Vec<u64>>>, AllocError>
     requires { HasLayouts program.now }
     ensures count { IfOk result (λ made. length made.items ≡ length program.now.table.list) }
@@ -114,7 +114,7 @@ fn struct_offsets(alloc: Global, program: &Program) -> Result<Vec<Option<Vec<u64
     Ok(made)
 }
 
-// The offsets of the scalars of a struct, unless it is large.
+// Returns the offsets of the scalars of a struct, unless it is large.
 fn one_struct(program: &Program, tag: u32) -> Result<Option<Vec<u64>>, AllocError>
     requires { HasLayouts program.now }
     ensures { IfOk result (λ made.
@@ -129,7 +129,7 @@ fn one_struct(program: &Program, tag: u32) -> Result<Option<Vec<u64>>, AllocErro
     Ok(Some(offsets))
 }
 
-// The file-scope objects.
+// Returns the file-scope objects.
 fn global_blocks(alloc: Global, program: &Program) -> Result<Vec<Block<'_>>, AllocError>
     requires { HasLayouts program.now }
     ensures { IfOk result (λ made.
@@ -145,7 +145,7 @@ fn global_blocks(alloc: Global, program: &Program) -> Result<Vec<Block<'_>>, All
     Ok(made)
 }
 
-// What a file-scope object holds at first: anything, but a const one its initializer, or zeros (C11 6.7.9, paragraph 10).
+// Returns the initial contents of a file-scope object: for a const one its initializer, or zeros (C11 6.7.9, paragraph 10); else inputs.
 fn global_fill<'a>(
     alloc: Global,
     program: &'a Program,
@@ -169,7 +169,7 @@ fn global_fill<'a>(
     }
 }
 
-// The literals.
+// Returns the string literals.
 fn literal_blocks(alloc: Global, program: &Program) -> Result<Vec<Block<'_>>, AllocError>
     ensures { IfOk result (λ made.
         map block_of made.items ≡ map steps.literal_block program.now.literals.items) }
@@ -182,7 +182,7 @@ fn literal_blocks(alloc: Global, program: &Program) -> Result<Vec<Block<'_>>, Al
     Ok(made)
 }
 
-// A string literal holds its bytes and a zero byte (C11 6.4.5, paragraph 6).
+// Returns the object of a string literal, which holds its bytes and a zero byte (C11 6.4.5, paragraph 6).
 fn literal_block(alloc: Global, literal: &Bytes) -> Result<Block<'_>, AllocError>
     ensures { IfOk result (λ made. block_of made ≡ steps.literal_block literal.now) }
 {

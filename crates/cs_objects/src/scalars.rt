@@ -1,4 +1,4 @@
-//! What begins at an offset of an object's type: scalars and structs.
+//! Scalars and structs at an offset of an object's type.
 ghost use Rattle.std.specs.Prelude.{◌≡◌, ◌==◌, ◌&&◌, ℕ, Bool, nat_lt, IfOk, option_map, if◌then◌else◌};
 ghost use Rattle.cs_types.specs.Shape.{shape_of, integer, struct, same_shape};
 ghost use Rattle.cs_types.specs.Layout.{complete_count, members_of};
@@ -14,7 +14,7 @@ use cs_values::types::{is_small, size_of};
 use std::alloc::AllocError;
 
 impl<'a> BlockType<'a> {
-    /// The bytes of the type; an incomplete one has none (C11 6.5.3.4).
+    /// Returns the size of the type in bytes; 0 for an incomplete one (C11 6.5.3.4).
     pub fn size(self, program: &Program) -> Result<u64, AllocError>
         requires { HasLayouts program.now }
         ensures { IfOk result (λ bytes.
@@ -28,7 +28,7 @@ impl<'a> BlockType<'a> {
         }
     }
 
-    /// The scalar that begins at an offset of the type, if one does.
+    /// Returns the scalar that begins at an offset of the type, if there is one.
     pub fn scalar(
         self,
         program: &'a Program,
@@ -76,7 +76,7 @@ impl<'a> BlockType<'a> {
         }
     }
 
-    /// Whether an object of a type begins at an offset of this one: a scalar of that very type, or that struct.
+    /// Whether an object of a type begins at an offset of this one: a scalar of exactly that type, or that struct.
     pub fn begins(self, program: &'a Program, ty: &CType, offset: u64) -> Result<bool, AllocError>
         requires { HasLayouts program.now }
         ensures { IfOk result (λ holds.
@@ -112,7 +112,7 @@ impl<'a> BlockType<'a> {
     }
 }
 
-// The character that begins at an offset of so many characters, if one does.
+// Returns the character that begins at an offset of an array of `count` characters, if there is one.
 fn character<'a>(count: u64, offset: u64) -> Option<BlockType<'a>>
     ensures { option_map type_of result
         ≡ (if nat_lt offset count then Some (integer IntType.Char) else None) }
@@ -134,7 +134,7 @@ fn is_char(ty: &CType) -> bool
     }
 }
 
-// Whether a scalar, if one was found, is of a type.
+// Whether there is a scalar, and it has a type.
 fn is_of(ty: &CType, found: Option<BlockType>) -> bool
     ensures { result ≡ types.is_of (shape_of ty.now) (option_map type_of found.entry) }
 {
@@ -144,7 +144,7 @@ fn is_of(ty: &CType, found: Option<BlockType>) -> bool
     }
 }
 
-// How many structs are complete, which is how deep they can hold one another.
+// Returns the number of complete structs, which bounds how deep they can be nested.
 fn complete_structs(program: &Program) -> usize
     ensures { result ≡ complete_count program.now.table.list }
 {
@@ -152,7 +152,7 @@ fn complete_structs(program: &Program) -> usize
     structs.iter().filter(|s| s.members.is_some()).count()
 }
 
-// The members of a struct; none where it is incomplete.
+// Returns the members of a struct; `None` if it is incomplete.
 pub fn members_of(program: &Program, number: u32) -> Option<&[Member]>
     ensures { option_map (λ members. members.now) result
         ≡ members_of program.now.table.list number }
@@ -162,7 +162,7 @@ pub fn members_of(program: &Program, number: u32) -> Option<&[Member]>
     Some(members.as_slice())
 }
 
-// The struct in which an offset of a type lies, once the arrays around it are divided away, and the offset there.
+// Returns the struct that contains an offset of a type, after indexing the arrays around it, and the offset in the struct.
 fn struct_at(program: &Program, ty: &CType, offset: u64) -> Result<Option<(u32, u64)>, AllocError>
     requires { HasLayouts program.now }
     ensures { IfOk result (λ found.
@@ -186,7 +186,7 @@ fn struct_at(program: &Program, ty: &CType, offset: u64) -> Result<Option<(u32, 
     }
 }
 
-// Whether a struct begins at an offset of another: at its beginning if they are one, or in the type of a member.
+// Whether a struct begins at an offset of another: at its beginning if they are the same, or in the type of a member.
 #[cycle(begins)]
 fn begins_in_struct(
     program: &Program,
@@ -211,14 +211,14 @@ fn begins_in_struct(
     }
 }
 
-// Whether an offset is the beginning of the struct that is looked for.
+// Whether this is the wanted struct, at its beginning.
 fn is_at(number: u32, wanted: u32, offset: u64) -> bool
     ensures { result ≡ ((number == wanted) && (offset == 0)) }
 {
     number == wanted && offset == 0
 }
 
-// Whether a struct begins in the type of a member, at the rest of an offset of the struct that has these members.
+// Whether a struct begins in one of these members of a struct, at an offset of that struct.
 #[cycle(begins)]
 fn begins_in_members(
     program: &Program,

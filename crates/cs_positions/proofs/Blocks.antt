@@ -1,4 +1,4 @@
--- What stands at a number in a block: for the contract of `operation_at`.
+-- The operation with a number in a block: for the contract of `operation_at`.
 use Rattle.std.proofs.Common.{◌≡◌, ℕ, zero, suc, ◌+◌, List, [], ◌∷◌, map, drop, Bor, Some, sym, ap, ◌∙◌, arith}
 use Rattle.std.specs.Prelude.{slice_get}
 use Rattle.std.specs.Slice.{IsItemAt}

@@ -1,4 +1,4 @@
--- What comes next at a point.
+-- The next step at a point.
 use Rattle.std.specs.Prelude.{◌≡◌, [], Option, Some, None, map}
 use Rattle.std.specs.Borrow.{Bor}
 use Rattle.cs_cfg.specs.declared.code.Block as b
@@ -9,12 +9,12 @@ use Rattle.cs_cfg.specs.GraphView as view
 use Rattle.cs_positions.specs.declared.nexts.Next.{Next}
 use Rattle.cs_positions.specs.declared.nexts.Next.TheVariants as next
 
--- a graph that was found
+-- the graph that was found, if any
 abbrev pub flow_found : Option (Bor f.Flow) → Option Flow
 flow_found None = None
 flow_found (Some flow) = Some (view.flow flow.now)
 
--- a block that was found, or one that isn't there
+-- the block that was found, or the default one
 abbrev pub found_block : Option (Bor b.Block) → Point
 found_block None = no_point
 found_block (Some block) = view.block block.now
@@ -23,11 +23,11 @@ found_block (Some block) = view.block block.now
 abbrev pub without_counted_point : b.Block → Point
 without_counted_point block = record { operations = map view.operation block.operations.items; end = view.block_end block.end }
 
--- the operation by which a counted point is reached
+-- the operation that reaches a counted point
 abbrev pub reaching : CountedPoint → Operation
 reaching counted_point = record { at = counted_point.place; temporary = 0; work = Reach counted_point.kind counted_point.number }
 
--- this comes next at a point, and after it the other point
+-- this step is the next at a point, and the other point follows
 abbrev pub IsNext : Next → Point → Point → Type 0
 IsNext (next.CountedPoint counted_point) here following = here ≡ before (reaching counted_point.now) following
 IsNext (next.Operation operation) here following = here ≡ before (view.operation operation.now) following

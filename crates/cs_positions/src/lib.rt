@@ -1,4 +1,4 @@
-//! What the code has for a frame: what comes next at its position, and the local that a declaration touches.
+//! The code at a frame's position: what comes next, and the local that a declaration touches.
 #![tactic(auto)]
 
 mod locals;

@@ -1,4 +1,4 @@
-//! What a frame does next.
+//! The next step of a frame.
 ghost use Rattle.std.specs.Prelude.{◌≡◌, ◌+◌};
 ghost use Rattle.cs_cfg.specs.Graph as graph;
 ghost use Rattle.cs_cfg.specs.GraphView as view;
@@ -8,18 +8,18 @@ ghost use Rattle.cs_positions.specs.Points.{left_of, point_of};
 use crate::positions::Position;
 use cs_cfg::{Block, BlockEnd, Code, CountedPoint, Flow, Operation};
 
-/// What a frame does next.
+/// The next step of a frame.
 #[derive(Clone, Copy)]
 pub enum Next<'a> {
     /// A loop head or a label is reached.
     CountedPoint(&'a CountedPoint),
     Operation(&'a Operation),
     End(&'a BlockEnd),
-    /// The frame stands in a block that isn't there.
+    /// The frame is in a block that doesn't exist.
     Nowhere,
 }
 
-/// What a frame of a function does next, that has come to a position.
+/// Returns the next step of a frame of a function at a position.
 pub fn next_at(code: &Code, function: u32, position: Position) -> Next<'_>
     ensures { IsNext result (point_of code.now position function)
         (point_of code.now (record position { done = position.done + 1 }) function) }
@@ -30,7 +30,7 @@ pub fn next_at(code: &Code, function: u32, position: Position) -> Next<'_>
     }
 }
 
-// The block with a number in a function.
+// Returns the block with a number in a function.
 fn block_at(code: &Code, function: u32, block: u32) -> Option<&Block>
     ensures { graph.block_in (view.code code.now) function block ≡ found_block result }
 {
@@ -40,7 +40,7 @@ fn block_at(code: &Code, function: u32, block: u32) -> Option<&Block>
     }
 }
 
-/// The graph of a function, if it has one.
+/// Returns the graph of a function, if it has one.
 pub fn flow_at(code: &Code, function: u32) -> Option<&Flow>
     ensures { graph.flow_of (view.code code.now) function ≡ flow_found result }
 {
@@ -51,7 +51,7 @@ pub fn flow_at(code: &Code, function: u32) -> Option<&Flow>
     }
 }
 
-// What comes next in a block of which so many things are done.
+// Returns the next step in a block of which `done` steps are done.
 fn next_in(block: &Block, done: usize) -> Next<'_>
     ensures { IsNext result (left_of done (view.block block.now))
         (left_of (done + 1) (view.block block.now)) }
@@ -68,7 +68,7 @@ fn next_in(block: &Block, done: usize) -> Next<'_>
     }
 }
 
-// The operation with a number in a block, or the block's end.
+// Returns the operation with a number in a block, or the block's end.
 fn operation_at(block: &Block, number: usize) -> Next<'_>
     ensures { IsNext result (left_of number (without_counted_point block.now))
         (left_of (number + 1) (without_counted_point block.now)) }

@@ -1,7 +1,7 @@
-//! How far frames have come.
+//! Positions of frames in the code.
 
-/// How far a frame has come: a block of its function, and how many of the things that the block does are done. Its counted point is the
-/// first one, where it has a counted point.
+/// The position of a frame: a block of its function, and how many steps of the block are done. A counted point, if the block has one, is the
+/// first step.
 #[derive(Clone, Copy)]
 pub struct Position {
     pub block: u32,

@@ -1,4 +1,4 @@
--- What expressions of some forms come to: for the contracts of `act` and `fetch`.
+-- The acts of expressions of some forms: for the contracts of `act` and `fetch`.
 use Rattle.std.proofs.Common.{◌≡◌, ℕ, Vec, Global, length, sym, ap, ◌∙◌}
 use Rattle.cs_types.specs.declared.ctype.CType.{CType}
 use Rattle.cs_types.specs.Shape.{shape_of}

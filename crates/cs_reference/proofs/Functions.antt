@@ -1,4 +1,4 @@
--- The body of the function that runs, which may be missing: for the contract of `go_to`.
+-- The body of the current function, which may be missing: for the contract of `go_to`.
 use Rattle.std.proofs.Common.{◌≡◌, ℕ, Option, Some, None, ap, ◌∙◌}
 use Rattle.std.specs.Prelude.{slice_get, option_map, unwrap_or}
 use Rattle.cs_ast.specs.declared.typed.program.Function.{Function}

@@ -1,4 +1,4 @@
--- What an expression of each form does with its parts, which are on the stack, defined without those parts.
+-- The operation of an expression of each form on its operands, which are on the stack, defined without the operands' expressions.
 use Rattle.std.specs.Prelude.{ℕ, pos, not}
 use Rattle.cs_types.specs.Shape.{Shape}
 use Rattle.cs_ast.specs.declared.place.Place.{Place}
@@ -21,11 +21,11 @@ use Rattle.cs_meaning.specs.Calls.{release}
 use Rattle.cs_meaning.specs.Machine.{State, push, push_cell, pop, pop_many, operand_at, cell_at}
 use Rattle.cs_meaning.specs.Expressions.{pointer_age, amount_age, number_at}
 
--- the place of a local of the frame that runs is left
+-- pushes the lvalue of a local of the current frame
 abbrev pub local_place : ℕ → State → State
 local_place declaration m = push_cell (PointerCell (LocalObject m.frame.number declaration) (pos 0)) m
 
--- the place of a member is left in place of its object's
+-- replaces the lvalue of an object by that of a member
 abbrev pub member_place : ℕ → State → State
 member_place offset m = push_cell (further (cell_at m 0) offset) (pop m)
 
@@ -34,7 +34,7 @@ abbrev pub index_act : TypedProgram → Place → Shape → Order → State → 
 index_act program at ty order m =
     sum program.model at (cell_at m (pointer_age order)) (number_at m (amount_age order)) (size_of program ty) (λ cell. Goes (push_cell cell (pop_many 2 m)))
 
--- the member of what a pointer points to
+-- the member of the object that a pointer points to
 abbrev pub arrow_act : Place → ℕ → State → Act State
 arrow_act at offset m = arrow at (cell_at m 0) offset (λ cell. Goes (push_cell cell (pop m)))
 
@@ -65,7 +65,7 @@ abbrev pub difference_act : TypedProgram → Place → Shape → State → Act S
 difference_act program at ty m =
     difference at (cell_at m 1) (cell_at m 0) (size_of program (target_of ty)) (λ number. Goes (push_cell (NumberCell number) (pop_many 2 m)))
 
--- the bytes of what a pointer that an expression names points to
+-- the size of what the pointer that an expression designates points to
 abbrev pub size_of_target : TypedProgram → Typed → ℕ
 size_of_target program object = size_of program (target_of (type_of object))
 

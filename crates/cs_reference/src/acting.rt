@@ -1,4 +1,4 @@
-//! What an expression does with its parts, which are on the stack (C11 6.5).
+//! The operations of expressions on their operands, which are on the stack (C11 6.5).
 ghost use Rattle.std.specs.Prelude.{◌≡◌, OnOk, IfErr};
 ghost use Rattle.cs_types.specs.Shape.{shape_of};
 ghost use Rattle.cs_ast.specs.TypedView.{typed};
@@ -27,7 +27,7 @@ use cs_values::constants::{integer_of, target_size, truth_cell, unary_operation}
 use cs_values::types::size_of;
 use cs_values::{Cell, Object, Operand, stride_of};
 
-/// Does what an expression does with its parts.
+/// Carries out the operation of an expression on its operands.
 pub fn act<'a>(run: &mut Runner<'a>, e: &'a Expr) -> Result<(), Stop>
     requires { IsReady run.old }
     ensures { Performs run.old run.new result
@@ -68,7 +68,7 @@ pub fn act<'a>(run: &mut Runner<'a>, e: &'a Expr) -> Result<(), Stop>
     }
 }
 
-// A scalar is left.
+// Pushes a scalar.
 fn act_cell(run: &mut Runner, cell: Cell) -> Result<(), Stop>
     ensures { Performs run.old run.new result
         (Goes (machine.push_cell (cell_of cell) (state_in run.old))) }
@@ -77,7 +77,7 @@ fn act_cell(run: &mut Runner, cell: Cell) -> Result<(), Stop>
     Ok(())
 }
 
-// The place of a local is left.
+// Pushes the lvalue of a local.
 fn act_local(run: &mut Runner, declaration: u32) -> Result<(), Stop>
     ensures { Performs run.old run.new result
         (Goes (local_place declaration (state_in run.old))) }
@@ -87,7 +87,7 @@ fn act_local(run: &mut Runner, declaration: u32) -> Result<(), Stop>
     Ok(())
 }
 
-// The place of a member is left.
+// Pushes the lvalue of a member.
 fn act_member(run: &mut Runner, offset: u64) -> Result<(), Stop>
     ensures { Performs run.old run.new result
         (Goes (member_place offset (state_in run.old))) }
@@ -111,7 +111,7 @@ fn act_index(run: &mut Runner, place: Place, ty: &CType, order: Order) -> Result
     Ok(())
 }
 
-// The member of what a pointer points to.
+// The member of the object that a pointer points to.
 fn act_arrow(run: &mut Runner, place: Place, offset: u64) -> Result<(), Stop>
     ensures { Performs run.old run.new result (arrow_act place offset (state_in run.old)) }
 {
@@ -144,7 +144,7 @@ fn act_convert(run: &mut Runner, place: Place, from: &CType, to: &CType) -> Resu
     Ok(())
 }
 
-// An operator of one integer.
+// A unary integer operator.
 fn act_unary(run: &mut Runner, place: Place, ty: &CType, operator: UnOp) -> Result<(), Stop>
     ensures { Performs run.old run.new result
         (unary_act place (shape_of ty.now) operator (state_in run.old)) }
@@ -156,7 +156,7 @@ fn act_unary(run: &mut Runner, place: Place, ty: &CType, operator: UnOp) -> Resu
     Ok(())
 }
 
-// Whether an operand doesn't hold.
+// The operator `!`.
 fn act_not(run: &mut Runner, place: Place) -> Result<(), Stop>
     ensures { Performs run.old run.new result (not_act place (state_in run.old)) }
 {
@@ -167,7 +167,7 @@ fn act_not(run: &mut Runner, place: Place) -> Result<(), Stop>
     Ok(())
 }
 
-// An operator of two integers.
+// A binary integer operator.
 fn act_binary(run: &mut Runner, place: Place, ty: &CType, operator: BinOp) -> Result<(), Stop>
     ensures { Performs run.old run.new result
         (binary_act (program_of run.old) place (shape_of ty.now) operator
@@ -195,7 +195,7 @@ fn act_compare(run: &mut Runner, place: Place, operator: CmpOp) -> Result<(), St
     Ok(())
 }
 
-// A pointer moved by a number of elements.
+// A pointer plus or minus a number of elements.
 fn act_sum(
     run: &mut Runner,
     place: Place,
@@ -216,7 +216,7 @@ fn act_sum(
     Ok(())
 }
 
-// How many elements lie between two pointers.
+// The difference of two pointers, in elements.
 fn act_difference(run: &mut Runner, place: Place, ty: &CType) -> Result<(), Stop>
     requires { IsReady run.old }
     ensures { Performs run.old run.new result
@@ -229,7 +229,7 @@ fn act_difference(run: &mut Runner, place: Place, ty: &CType) -> Result<(), Stop
     Ok(())
 }
 
-// An assignment, which leaves the stored value.
+// An assignment, which pushes the stored value.
 fn act_assign(run: &mut Runner, place: Place, object: &Expr) -> Result<(), Stop>
     requires { IsReady run.old }
     ensures { Performs run.old run.new result

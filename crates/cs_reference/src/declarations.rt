@@ -1,4 +1,4 @@
-//! Declarations that are reached, and what is stored in declared objects (C11 6.2.4, paragraph 6; 6.7.9).
+//! Declarations, and stores in declared objects (C11 6.2.4, paragraph 6; 6.7.9).
 ghost use Rattle.std.specs.Prelude.{Some, option_map, option_copied};
 ghost use Rattle.cs_types.specs.Shape.{shape_of};
 ghost use Rattle.cs_ast.specs.TypedView.{initial};
@@ -17,7 +17,7 @@ use cs_run_state::items::{ExprStep, Item};
 use cs_runner::runner::Runner;
 use cs_types::CType;
 
-/// A declaration is reached: the object becomes unset, or takes a value, or becomes zero before its pieces are stored.
+/// Executes a declaration: the object becomes unset, or gets a value, or becomes zero before its pieces are stored.
 pub fn declare<'a>(
     run: &mut Runner<'a>,
     place: Place,
@@ -35,7 +35,7 @@ pub fn declare<'a>(
     }
 }
 
-// A declaration with an initializer is reached: the object takes a value, or becomes zero before its pieces are stored.
+// A declaration with an initializer: the object gets a value, or becomes zero before its pieces are stored.
 fn set_local<'a>(
     run: &mut Runner<'a>,
     place: Place,
@@ -68,7 +68,7 @@ fn set_local<'a>(
     }
 }
 
-// A declaration without an initializer is reached: the object becomes unset, which is a touch where it is a scalar.
+// A declaration without an initializer: the object becomes unset, which is a touch if it is a scalar.
 fn clear_local(run: &mut Runner, place: Place, declaration: u32) -> Result<(), Stop>
     ensures { Performs run.old run.new result
         (meaning.clear_local (program_of run.old) place declaration (state_in run.old)) }
@@ -81,7 +81,7 @@ fn clear_local(run: &mut Runner, place: Place, declaration: u32) -> Result<(), S
     Ok(())
 }
 
-/// The newest value is stored in a local, in the part of it that begins at an offset.
+/// Stores the newest value in a local, at an offset.
 pub fn store_local<'a>(
     run: &mut Runner<'a>,
     place: Place,

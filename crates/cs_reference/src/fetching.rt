@@ -13,7 +13,7 @@ use cs_run_log::Stop;
 use cs_runner::runner::Runner;
 use cs_types::IntType;
 
-/// The load of an update, whose place stays below the value. A number is converted to the type in which the operator works.
+/// Loads for an update; the lvalue stays on the stack, below the value. A number is converted to the operator's type.
 pub fn fetch<'a>(run: &mut Runner<'a>, e: &'a Expr) -> Result<(), Stop>
     requires { IsReady run.old }
     ensures { Performs run.old run.new result

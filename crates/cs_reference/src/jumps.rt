@@ -1,4 +1,4 @@
-//! Jumps (C11 6.8.6): what is still to be done where `break`, `continue` and `goto` lead.
+//! Jumps (C11 6.8.6): the things to do at the targets of `break`, `continue` and `goto`.
 ghost use Rattle.cs_ast.specs.TypedProgram.{routine};
 ghost use Rattle.cs_ast.specs.TypedView.{statement};
 ghost use Rattle.cs_meaning.specs.Machine as machine;
@@ -17,7 +17,7 @@ use cs_run_log::Stop;
 use cs_run_state::items::Item;
 use cs_runner::runner::Runner;
 
-/// Goes to a label of the function that runs, which is reached; one that isn't there leads on.
+/// Jumps to a label of the current function, which is reached; if there is no such label, continues with the next statement.
 pub fn go_to(run: &mut Runner, label: u32) -> Result<(), Stop>
     ensures { Performs run.old run.new result
         (statements.go_to (program_of run.old) (budgets_of run.old) label
@@ -34,7 +34,7 @@ pub fn go_to(run: &mut Runner, label: u32) -> Result<(), Stop>
     }
 }
 
-// The same in the body of the function that runs.
+// The same, given the body of the current function.
 fn go_to_in<'a>(
     run: &mut Runner<'a>,
     label: u32,

@@ -1,4 +1,4 @@
-//! The steps of a reference interpreter: it runs a typed program as the reference machine does, step by step.
+//! The steps of a reference interpreter, which runs a typed program as the reference machine does, step by step.
 #![tactic(auto, using(cs_run_log::proofs::Performing::silent))]
 
 mod acting;

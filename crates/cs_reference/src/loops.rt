@@ -1,4 +1,4 @@
-//! The ways that tests and loops take (C11 6.8.4, 6.8.5).
+//! The branches of tests, and the turns of loops (C11 6.8.4, 6.8.5).
 ghost use Rattle.std.specs.Prelude.{◌+◌, ◌∷◌};
 ghost use Rattle.cs_ast.specs.TypedView.{typed, statement};
 ghost use Rattle.cs_meaning.specs.Machine as machine;
@@ -19,7 +19,7 @@ use cs_run_log::Stop;
 use cs_run_state::items::StmtStep;
 use cs_runner::runner::Runner;
 
-/// The newest value, which is a test's or a `switch`'s, says the way.
+/// Takes the branch that the newest value, a test's or a `switch`'s, selects.
 pub fn decide<'a>(run: &mut Runner<'a>, s: &'a Stmt, counted_point: u64) -> Result<(), Stop>
     ensures { Performs run.old run.new result
         (meaning.decide (statement s.now) counted_point (state_in run.old)) }
@@ -48,7 +48,7 @@ pub fn decide<'a>(run: &mut Runner<'a>, s: &'a Stmt, counted_point: u64) -> Resu
     }
 }
 
-// A statement is executed where the newest value holds.
+// Schedules a statement if the newest value is true.
 fn decide_if<'a>(
     run: &mut Runner<'a>,
     place: Place,
@@ -66,7 +66,7 @@ fn decide_if<'a>(
     Ok(())
 }
 
-// One statement or another is executed.
+// Schedules one statement or another, by the newest value.
 fn decide_either<'a>(
     run: &mut Runner<'a>,
     place: Place,
@@ -90,7 +90,7 @@ fn decide_either<'a>(
     Ok(())
 }
 
-// The body of a loop is executed where the newest value holds.
+// Schedules the body of a loop if the newest value is true.
 fn decide_body<'a>(
     run: &mut Runner<'a>,
     s: &'a Stmt,
@@ -109,7 +109,7 @@ fn decide_body<'a>(
     Ok(())
 }
 
-// A loop turns where the newest value holds.
+// Schedules the head of a loop if the newest value is true.
 fn decide_turn<'a>(run: &mut Runner<'a>, s: &'a Stmt, counted_point: u64) -> Result<(), Stop>
     ensures { Performs run.old run.new result
         (decides s.now.place (machine.Turn (statement s.now) counted_point
@@ -122,7 +122,7 @@ fn decide_turn<'a>(run: &mut Runner<'a>, s: &'a Stmt, counted_point: u64) -> Res
     Ok(())
 }
 
-/// The head of a loop is reached; any other statement has none.
+/// Reaches the head of a loop; other statements have none.
 pub fn turn<'a>(run: &mut Runner<'a>, s: &'a Stmt, counted_point: u64) -> Result<(), Stop>
     ensures { Performs run.old run.new result
         (meaning.turn (budgets_of run.old) (statement s.now) counted_point
@@ -151,7 +151,7 @@ pub fn turn<'a>(run: &mut Runner<'a>, s: &'a Stmt, counted_point: u64) -> Result
     }
 }
 
-// The head of a loop is reached, and then its test is evaluated.
+// Reaches the head of a loop, and schedules its test.
 fn turn_to_test<'a>(
     run: &mut Runner<'a>,
     s: &'a Stmt,
@@ -168,7 +168,7 @@ fn turn_to_test<'a>(
     run.reach_counted_point(s.place, PointKind::Head, counted_point)
 }
 
-// The head of a loop is reached, and then its body is executed.
+// Reaches the head of a loop, and schedules its body.
 fn turn_to_body<'a>(
     run: &mut Runner<'a>,
     s: &'a Stmt,

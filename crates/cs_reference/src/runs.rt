@@ -14,14 +14,14 @@ use cs_run_log::{Log, Stop};
 use cs_runner::runner::Runner;
 use std::alloc::{AllocError, Global};
 
-/// A run that has ended: how, and what it has shown, read and touched.
+/// A run that has ended: its outcome, and its log of events, lookups and touches.
 #[derive(Drop)]
 pub struct Ended {
     pub outcome: Outcome,
     pub log: Log,
 }
 
-/// Runs a function of a program as the reference machine does, until the run ends.
+/// Runs a function of a program to the end of the run, as the reference machine does.
 pub fn run<'a>(alloc: Global, setting: &'a Setting<'a>, entry: u32) -> Result<Ended, AllocError>
     requires { IsReady setting.now }
     ensures { IfOk result (λ ended.

@@ -1,4 +1,4 @@
-//! What executing a statement does (C11 6.8).
+//! The execution of statements (C11 6.8).
 ghost use Rattle.std.specs.Prelude.{◌≡◌, ◌+◌, ◌∷◌, OnOk, IfErr, option_map, option_copied};
 ghost use Rattle.cs_ast.specs.TypedView.{typed, statement, statement_list};
 ghost use Rattle.cs_meaning.specs.Jumps as jumps;
@@ -24,7 +24,7 @@ use cs_runner::runner::Runner;
 use cs_values::Operand;
 use std::alloc::AllocError;
 
-/// A statement begins, the first counted point of which has a number.
+/// Begins a statement, the first counted point of which has a number.
 pub fn execute<'a>(run: &mut Runner<'a>, s: &'a Stmt, counted_point: u64) -> Result<(), Stop>
     requires { IsReady run.old }
     ensures { Performs run.old run.new result
@@ -67,7 +67,7 @@ pub fn execute<'a>(run: &mut Runner<'a>, s: &'a Stmt, counted_point: u64) -> Res
     }
 }
 
-// A `for`: its first part is executed, and then it turns.
+// Schedules the first part of a `for`, and then its head.
 fn put_for<'a>(
     state: &mut Machine<'a>,
     s: &'a Stmt,
@@ -84,7 +84,7 @@ fn put_for<'a>(
     Ok(())
 }
 
-// A `switch`: its value is evaluated, and then decides.
+// Schedules the value of a `switch`, and then the case that it selects.
 fn put_switch<'a>(
     state: &mut Machine<'a>,
     s: &'a Stmt,
@@ -101,7 +101,7 @@ fn put_switch<'a>(
     Ok(())
 }
 
-// An expression is evaluated, and its value dropped.
+// Schedules an expression, whose value is dropped.
 fn put_run<'a>(state: &mut Machine<'a>, e: &'a Expr) -> Result<(), AllocError>
     ensures { OnOk result (state_of state.new
         ≡ machine.to_do (machine.EvaluateUnused (typed e.now)
@@ -112,7 +112,7 @@ fn put_run<'a>(state: &mut Machine<'a>, e: &'a Expr) -> Result<(), AllocError>
     Ok(())
 }
 
-// A `return`: the frame is left with a value, if there is one.
+// A `return`: the frame ends with a value, if there is one.
 fn put_return<'a>(
     state: &mut Machine<'a>,
     place: Place,

@@ -28,7 +28,7 @@ use cs_types::CType;
 use cs_values::{Cell, Operand};
 use std::alloc::AllocError;
 
-/// One step.
+/// Carries out one step.
 pub fn step(run: &mut Runner) -> Result<(), Stop>
     requires { IsReady run.old }
     ensures { Performs run.old run.new result
@@ -40,7 +40,7 @@ pub fn step(run: &mut Runner) -> Result<(), Stop>
     }
 }
 
-// What a thing to do does, with the other things left to be done.
+// Carries out a thing to do, with the other things still to do.
 fn perform<'a>(run: &mut Runner<'a>, item: Item<'a>) -> Result<(), Stop>
     requires { IsReady run.old }
     ensures { Performs run.old run.new result
@@ -84,7 +84,7 @@ fn perform<'a>(run: &mut Runner<'a>, item: Item<'a>) -> Result<(), Stop>
     }
 }
 
-// A step of an expression.
+// Carries out a step of an expression.
 fn perform_expr<'a>(run: &mut Runner<'a>, step: ExprStep, e: &'a Expr) -> Result<(), Stop>
     requires { IsReady run.old }
     ensures { Performs run.old run.new result
@@ -106,7 +106,7 @@ fn perform_expr<'a>(run: &mut Runner<'a>, step: ExprStep, e: &'a Expr) -> Result
     }
 }
 
-// A step of a statement.
+// Carries out a step of a statement.
 fn perform_stmt<'a>(
     run: &mut Runner<'a>,
     step: StmtStep,
@@ -129,7 +129,7 @@ fn perform_stmt<'a>(
     }
 }
 
-// The end of a function's body is reached.
+// Reaches the end of a function's body.
 fn come_to_end(run: &mut Runner, place: Place, ty: BlockType) -> Result<(), Stop>
     ensures { Performs run.old run.new result
         (steps.do_item (program_of run.old) (budgets_of run.old)
@@ -141,7 +141,7 @@ fn come_to_end(run: &mut Runner, place: Place, ty: BlockType) -> Result<(), Stop
     Ok(())
 }
 
-// Nothing is left to be done but to leave the frame.
+// Replaces the things to do by the end of the frame.
 #[tactic(auto, using(cs_run_state::proofs::States::states), unfolding(cs_run_state::specs::MachineView::state_of))]
 fn leave_next(state: &mut Machine) -> Result<(), AllocError>
     ensures { OnOk result (state_of state.new
@@ -152,7 +152,7 @@ fn leave_next(state: &mut Machine) -> Result<(), AllocError>
     Ok(())
 }
 
-// What a function gives at the end of its body: nothing, or a value that was never set (C11 6.9.1, paragraph 12).
+// Returns the result at the end of a function's body: nothing, or an unset value (C11 6.9.1, paragraph 12).
 fn falls_off(ty: BlockType) -> Operand
     ensures { operand_of result ≡ calls.falls_off (type_of ty.entry) }
 {

@@ -1,4 +1,4 @@
-//! The ways of a `switch` (C11 6.8.4.2).
+//! The branches of a `switch` (C11 6.8.4.2).
 ghost use Rattle.cs_ast.specs.TypedView.{statement_list};
 ghost use Rattle.cs_meaning.specs.Initials.{number_in};
 ghost use Rattle.cs_meaning.specs.Machine as machine;
@@ -12,7 +12,7 @@ use cs_frames::cases::{chosen_case, put_from};
 use cs_run_log::{Stop, Touch};
 use cs_runner::runner::Runner;
 
-/// The newest value says which case a `switch` takes: the case shows, and the statements from it on are executed.
+/// Selects the case of a `switch` by the newest value: the case shows, and the statements from it on are scheduled.
 pub fn decide_switch<'a>(
     run: &mut Runner<'a>,
     place: Place,

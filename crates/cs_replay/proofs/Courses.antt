@@ -1,4 +1,4 @@
--- A run on its way from the beginning of a course, and how many steps it has left: for the loop of `follow`.
+-- A run in progress from the beginning of a course, and how many steps it has left: for the loop of `follow`.
 use Rattle.std.proofs.Common.{◌≡◌, ℕ, ◌≤◌, ◌<◌, refl, sym, ap, ◌∙◌, subst, arith}
 use Rattle.cs_ast.specs.TypedProgram.{typed_program}
 use Rattle.cs_events.specs.declared.outcome.Outcome.{Outcome}

@@ -1,4 +1,4 @@
--- Temporaries below a number, which are kept with the newest last: for the contract of `cut`.
+-- Temporaries below a number, stored with the newest last: for the contract of `cut`.
 use Rattle.std.proofs.Common.{◌≡◌, ℕ, ◌-◌, ◌≤◌, nat_le, Bool, true, false, List, map, take, drop, reverse, length, sym, ap, ◌∙◌, refl}
 use Rattle.std.proofs.Common.{arith}
 use Rattle.std.proofs.lemmas.Bool.Decides.{nat_tests}

@@ -1,4 +1,4 @@
--- Calls, by what is known of the function: for the contracts of `call` and `enter`.
+-- Calls, by the parts of the function that they depend on: for the contracts of `call` and `enter`.
 use Rattle.std.proofs.Common.{◌≡◌, ℕ, ◌+◌, ◌∷◌, List, Option, Some, None, unwrap_or, refl, sym, ap, ◌∙◌}
 use Rattle.std.specs.Prelude.{option_map, slice_get}
 use Rattle.cs_ast.specs.declared.place.Place.{Place}

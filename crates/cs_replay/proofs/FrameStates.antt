@@ -1,4 +1,4 @@
--- The state of a run that has gone into a new frame: for the contract of `go_inside`.
+-- The state of a run that has entered a new frame: for the contract of `go_inside`.
 use Rattle.std.proofs.Common.{◌≡◌, ℕ, ◌+◌, List, ◌∷◌, length, Option}
 use Rattle.cs_meaning.specs.Memory as meaning
 use Rattle.cs_run_state.specs.declared.machine.Frame.{Frame}

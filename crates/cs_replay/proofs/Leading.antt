@@ -1,4 +1,4 @@
--- Where acts of the code's run lead, and how they end it, by those of the reference machine: for the contracts of steps.
+-- Where acts of the code's run lead, and how they end it, derived from those of the reference machine: for the contracts of steps.
 use Rattle.std.proofs.Common.{◌≡◌, ℕ, Bool, List, [], ◌∷◌, refl, sym, ap, ◌∙◌}
 use Rattle.cs_ast.specs.declared.place.Place.{Place}
 use Rattle.cs_events.specs.declared.event.Label.{Label}

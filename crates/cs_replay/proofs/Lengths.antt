@@ -1,4 +1,4 @@
--- How many steps the run of placed code has, and how many it has left on its way: for the loop of `follow`.
+-- How many steps the run of placed code has, and how many it has left in progress: for the loop of `follow`.
 use Rattle.std.proofs.Common.{◌≡◌, ℕ, zero, suc, ◌≤◌, refl, sym, ap, ◌∙◌, subst, arith}
 use Rattle.cs_events.specs.Acts.{Act}
 use Rattle.cs_events.specs.Runs.{Setting, Log, Performed, Continues, Finishes, perform, Leads, stays, goes, EndsFrom}

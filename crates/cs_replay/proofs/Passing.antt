@@ -1,4 +1,4 @@
--- What a call comes to, in terms of the run before another call: for steps that go on with what they were given.
+-- The result of a call, in terms of the run before an earlier call: for steps that call one function after another.
 use Rattle.std.proofs.Common.{◌≡◌, Result, OnOk, IfErr, ◌∙◌, subst}
 use Rattle.std.specs.Prelude.{⊤}
 use Rattle.std.specs.Borrow.{Bor}

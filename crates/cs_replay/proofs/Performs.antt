@@ -1,4 +1,4 @@
--- Acts that do the same, where one leads to the states of the other seen in some way: for the contracts of all steps.
+-- Acts that do the same, where one leads to the other's states under some view: for the contracts of all steps.
 use Rattle.std.proofs.Common.{◌≡◌, Bool, true, false, if◌then◌else◌, refl, ap, ◌∙◌}
 use Rattle.cs_events.specs.declared.outcome.Outcome.{Outcome}
 use Rattle.cs_events.specs.Operations.{is_true}

@@ -1,4 +1,4 @@
--- What an operation does to the state of a run of the code, by what it does to that of the reference machine: for the contracts of steps.
+-- The effect of an operation on the state of a run of the code, from that on the state of the reference machine: for the contracts of steps.
 use Rattle.std.proofs.Common.{◌≡◌, ℕ, ◌+◌, ℤ, pos, Bool, true, false, List, [], ◌∷◌, Option, Some, None, refl, sym, subst}
 use Rattle.std.specs.Ordering.{int_eq}
 use Rattle.cs_types.specs.Shape.{Shape, void, integer, pointer, array, struct, shape_of}

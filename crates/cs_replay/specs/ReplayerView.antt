@@ -1,4 +1,4 @@
--- A run of code on its way, seen as the run of the code that its definition speaks of: its state, and what an act does to it.
+-- A run of code in progress, seen as the run in the definition: its state, and the effect of an act on it.
 use Rattle.std.specs.Prelude.{◌≡◌, List, map, reverse, Result, ⊤, OnOk, IfErr}
 use Rattle.cs_ast.specs.TypedProgram.{TypedProgram}
 use Rattle.cs_events.specs.declared.outcome.RunBudgets.{RunBudgets}
@@ -22,15 +22,15 @@ use Rattle.cs_replay.specs.declared.replayer.Replayer.{Replayer}
 use Rattle.cs_replay.specs.CodeStates.{at_point, code_state}
 use Rattle.cs_positions.specs.Points.{point_of}
 
--- a frame that waits
+-- a caller: a frame that waits
 abbrev pub caller_of : Code → Caller → CallFrame Point
 caller_of graphs caller = at_point (point_of graphs caller.position caller.frame.function) (frame_of caller.frame)
 
--- those that wait, the nearest first
+-- the callers, the nearest first
 abbrev pub callers_of : Code → List Caller → List (CallFrame Point)
 callers_of graphs callers = reverse (map (caller_of graphs) callers)
 
--- the code, the program that it stands for, and how far the run goes
+-- the code, its program, and the budgets of the run
 abbrev pub code_of : Replayer → graph.Code
 code_of run = code run.code.now
 
@@ -44,18 +44,18 @@ budgets_of run = runner.budgets_of run.runner
 abbrev pub state_in : Replayer → CodeState
 state_in run = code_state (point_of run.code.now run.position) (callers_of run.code.now run.callers.items) (runner.state_in run.runner)
 
--- what it goes by is ready, and the program's functions with a body are those that have a graph
+-- the setting is ready, and exactly the program's functions with a body have a graph
 pub record IsReady (run : Replayer) : Type 0 where
   pub setting : runner.IsReady run.runner
   pub graphs : HasGraphs (code_of run) (program_of run)
 
--- how a run has ended with a log; where memory was short nothing is said, and what it would have come to stands for it
+-- the end of a run with a log; if memory ran out nothing is claimed: the result is `otherwise`
 abbrev pub ended : Stop → runs.Log → Performed CodeState → Performed CodeState
 ended (stop.Outcome outcome) log otherwise = Finishes outcome log
 ended stop.Memory log otherwise = otherwise
 
 module _ (old new : Replayer) where
-  -- an act leads the run on
+  -- an act leads to the new state
   abbrev pub LeadsOn : Act CodeState → Type 0
   LeadsOn act = perform (setting_of old.runner.setting.now) (log_of old.runner.log) act ≡ Continues (state_in new) (log_of new.runner.log)
 
@@ -69,7 +69,7 @@ module _ (old new : Replayer) where
     pub setting : new.runner.setting ≡ old.runner.setting
     pub code : new.code ≡ old.code
 
-  -- what a call comes to that performs an act: the act leads the run on, by the same program, inputs and budgets, or has ended it
+  -- what a call that performs an act ensures: the act leads to the new state, with the same program, inputs and budgets, or ends the run
   pub record Performs (result : Result ⊤ Stop) (act : Act CodeState) : Type 0 where
     pub ok : OnOk result (LeadsOn act)
     pub err : IfErr result (Ends act)

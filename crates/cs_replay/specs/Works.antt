@@ -1,4 +1,4 @@
--- What an operation of the code does, for every machine, whatever that has still to do: all operations but calls.
+-- The operations of the code except calls, for every machine in frames, whatever it has still to do.
 use Rattle.std.specs.Prelude.{ℕ, pos, not}
 use Rattle.cs_types.specs.Shape.{integer}
 use Rattle.cs_ast.specs.declared.place.Place.{Place}
@@ -26,11 +26,11 @@ use Rattle.cs_cfg.specs.Graph.{Judge, Store, FetchNumber, Update, FetchPointer, 
 use Rattle.cs_cfg.specs.Graph.{Meet, Close}
 use Rattle.cs_cfg.specs.Working.{below, if_local, closed_with}
 
--- the machine whose frame has the temporaries below a number alone
+-- the machine whose frame has only the temporaries below a number
 abbrev pub cut_to : {Rest : Type 0} → ℕ → Running Rest → Running Rest
 cut_to number m = with_stack (below number m.frame.stack) m
 
--- what an operation at a place does, whose operands are the newest temporaries. A call goes on in another frame, and is defined elsewhere
+-- the act of an operation, whose operands are the newest temporaries. A call continues in another frame, and is defined elsewhere
 abbrev pub works : {Rest : Type 0} → TypedProgram → RunBudgets → Place → Work → Running Rest → Act (Running Rest)
 works program budgets at (Number n) m = Goes (push_cell (NumberCell n) m)
 works program budgets at Null m = Goes (push_cell NullCell m)

@@ -14,7 +14,7 @@ use cs_run_log::Stop;
 use cs_runner::runner::Runner;
 use cs_types::IntType;
 
-/// A load (C11 6.3.2.1).
+/// Loads from an object (C11 6.3.2.1).
 pub fn load(run: &mut Runner, place: Place, object: &Access) -> Result<(), Stop>
     requires { IsReady run.old }
     ensures { Performs run.old run.new result
@@ -25,7 +25,7 @@ pub fn load(run: &mut Runner, place: Place, object: &Access) -> Result<(), Stop>
     run.machine.load_from(&mut run.log, run.setting, access)
 }
 
-/// The load of an update of a number, whose place stays below the value and the value in the type of the operator.
+/// Loads for an update of a number; the lvalue stays on the stack, below the value and the value converted to the operator's type.
 pub fn fetch_number(
     run: &mut Runner,
     place: Place,
@@ -42,7 +42,7 @@ pub fn fetch_number(
         .fetch_number(&mut run.log, run.setting, place, access, works_in)
 }
 
-/// The load of an update of a pointer, whose place stays below the value.
+/// Loads for an update of a pointer; the lvalue stays on the stack, below the value.
 pub fn fetch_pointer(run: &mut Runner, place: Place, object: &Access) -> Result<(), Stop>
     requires { IsReady run.old }
     ensures { Performs run.old run.new result
@@ -53,7 +53,7 @@ pub fn fetch_pointer(run: &mut Runner, place: Place, object: &Access) -> Result<
     run.machine.fetch_pointer(&mut run.log, run.setting, access)
 }
 
-/// An assignment, which leaves the stored value (C11 6.5.16.1).
+/// Assigns, and pushes the stored value (C11 6.5.16.1).
 pub fn assign(run: &mut Runner, place: Place, object: &Access) -> Result<(), Stop>
     requires { IsReady run.old }
     ensures { Performs run.old run.new result
@@ -64,7 +64,7 @@ pub fn assign(run: &mut Runner, place: Place, object: &Access) -> Result<(), Sto
     run.machine.assign(&mut run.log, run.setting, place, access)
 }
 
-/// An update of a number.
+/// Updates a number.
 pub fn update(
     run: &mut Runner,
     place: Place,
@@ -90,7 +90,7 @@ pub fn update(
     )
 }
 
-/// A pointer moves by elements of so many bytes.
+/// Updates a pointer by a number of elements of a size in bytes.
 pub fn move_pointer(
     run: &mut Runner,
     place: Place,
@@ -116,7 +116,7 @@ pub fn move_pointer(
     )
 }
 
-// What the interpreter needs to know of an object that the code loads or stores.
+// Returns the interpreter's access to an object that the code loads or stores.
 fn access_to(object: &Access) -> access::Access<'_>
     ensures { view.access_of result ≡ access object.now }
 {

@@ -1,4 +1,4 @@
-//! Calls, and frames that are left (C11 6.5.2.2, 6.8.6.4).
+//! Calls, and returns from them (C11 6.5.2.2, 6.8.6.4).
 ghost use Rattle.std.specs.Prelude.{◌≡◌, [], Some, OnOk, IfSome, IfNone, map};
 ghost use Rattle.cs_ast.specs.TypedProgram.{typed_program, variable};
 ghost use Rattle.cs_cfg.specs.Graph as graph;
@@ -28,7 +28,7 @@ use cs_values::Operand;
 use std::alloc::AllocError;
 
 impl<'a> Replayer<'a> {
-    /// A call with so many arguments, which are the newest temporaries. A function without a graph has no body.
+    /// Calls a function with the `count` newest temporaries as arguments. A function without a graph has no body.
     pub fn call(&mut self, place: Place, function: u32, count: u32) -> Result<(), Stop>
         requires { IsReady self.old }
         ensures { Performs self.old self.new result
@@ -49,7 +49,7 @@ impl<'a> Replayer<'a> {
         }
     }
 
-    // A call of a function with a graph: it shows, unless there are as many frames as there may be.
+    // Calls a function with a graph: the call shows, unless the budget of depth is used up.
     fn enter(
         &mut self,
         place: Place,
@@ -81,7 +81,7 @@ impl<'a> Replayer<'a> {
         Ok(())
     }
 
-    // Goes into a new frame, which has these locals, at the beginning of a block.
+    // Continues in a new frame with these locals, at the beginning of a block.
     #[tactic(auto, using(cs_run_state::proofs::States::states), unfolding(cs_run_state::specs::MachineView::state_of))]
     fn go_inside(
         &mut self,
@@ -106,7 +106,7 @@ impl<'a> Replayer<'a> {
         Ok(())
     }
 
-    /// The frame that runs ends, and gives a value to the one that called it; the run is done where none did.
+    /// Ends the current frame, and returns a value to its caller; if there is none, the run is done.
     pub fn leave(&mut self, value: Operand) -> Result<(), Stop>
         ensures { Performs self.old self.new result
             (calls.leave (operand_of value) (state_in self.old)) }
@@ -120,7 +120,7 @@ impl<'a> Replayer<'a> {
         }
     }
 
-    // Takes the nearest of the frames that called the one that runs.
+    // Pops the caller of the current frame.
     #[tactic(auto, using(cs_run_state::proofs::States::states))]
     fn pop_caller(&mut self) -> Option<Caller<'a>>
         ensures some { IfSome result (λ caller.
@@ -136,7 +136,7 @@ impl<'a> Replayer<'a> {
         }
     }
 
-    // The frame that runs has ended, and gives a value to this one, which runs on.
+    // Returns a value from the current frame, which has ended, to a caller, which continues.
     #[tactic(auto, using(cs_run_state::proofs::States::states), unfolding(cs_run_state::specs::MachineView::state_of))]
     fn come_back(&mut self, caller: Caller<'a>, value: Operand) -> Result<(), AllocError>
         ensures state { OnOk result
@@ -151,7 +151,7 @@ impl<'a> Replayer<'a> {
     }
 }
 
-// The locals of a function, the parameters first; one that isn't there has none.
+// Returns the locals of a function, the parameters first; none if there is no such function.
 fn locals_of(program: &Program, function: u32) -> &[Local]
     ensures { map variable result.now
         ≡ (machine.routine_of (typed_program program.now) function).variables }
@@ -162,7 +162,7 @@ fn locals_of(program: &Program, function: u32) -> &[Local]
     }
 }
 
-// How many frames there were.
+// Returns the number of frames so far.
 #[tactic(auto, unfolding(cs_run_state::specs::MachineView::state_of))]
 fn frames_of(state: &Machine) -> u64
     ensures { result ≡ (state_of state.now).frames }

@@ -1,4 +1,4 @@
-//! Locals that become unset or zero, and what is stored in declared objects (C11 6.2.4, paragraph 6; 6.7.9).
+//! Locals that become unset or zero, and stores in declared objects (C11 6.2.4, paragraph 6; 6.7.9).
 ghost use Rattle.cs_types.specs.Shape.{shape_of};
 ghost use Rattle.cs_cfg.specs.Graph as graph;
 ghost use Rattle.cs_runner.specs.RunnerView.{program_of, budgets_of, state_in, IsReady, Performs};
@@ -13,7 +13,7 @@ use cs_run_log::{Stop, Touch};
 use cs_runner::runner::Runner;
 use cs_types::CType;
 
-/// A local becomes unset, which is a touch where it is a scalar (C11 6.2.4, paragraph 6).
+/// Makes a local unset, which is a touch if it is a scalar (C11 6.2.4, paragraph 6).
 pub fn clear(run: &mut Runner, place: Place, declaration: u32, scalar: bool) -> Result<(), Stop>
     ensures { Performs run.old run.new result
         (works (program_of run.old) (budgets_of run.old) place (graph.Clear declaration scalar)
@@ -27,7 +27,7 @@ pub fn clear(run: &mut Runner, place: Place, declaration: u32, scalar: bool) -> 
     Ok(())
 }
 
-/// A local becomes zero, before the pieces of its initializer are stored (C11 6.7.9).
+/// Makes a local zero, before the pieces of its initializer are stored (C11 6.7.9).
 pub fn zero(run: &mut Runner, place: Place, declaration: u32) -> Result<(), Stop>
     ensures { Performs run.old run.new result
         (works (program_of run.old) (budgets_of run.old) place (graph.Zero declaration)
@@ -37,7 +37,7 @@ pub fn zero(run: &mut Runner, place: Place, declaration: u32) -> Result<(), Stop
     Ok(())
 }
 
-/// The newest value is stored in a local, at an offset, which is a touch where the local is a scalar.
+/// Stores the newest value in a local, at an offset, which is a touch if the local is a scalar.
 pub fn store_local(
     run: &mut Runner,
     place: Place,
@@ -58,7 +58,7 @@ pub fn store_local(
     Ok(())
 }
 
-/// Bytes are stored in a local from an offset on (C11 6.7.9, paragraph 14).
+/// Stores bytes in a local, from an offset on (C11 6.7.9, paragraph 14).
 pub fn spell(
     run: &mut Runner,
     place: Place,

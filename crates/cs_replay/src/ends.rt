@@ -1,4 +1,4 @@
-//! What the end of a block does.
+//! The ends of blocks.
 ghost use Rattle.std.specs.Prelude.{◌≡◌, map, if◌then◌else◌};
 ghost use Rattle.cs_cfg.specs.CodeSteps as steps;
 ghost use Rattle.cs_cfg.specs.Graph as graph;
@@ -16,7 +16,7 @@ use cs_run_log::{Stop, Touch};
 use cs_values::{Cell, Operand};
 
 impl<'a> Replayer<'a> {
-    /// The end of a block: to another one, or out of the frame.
+    /// Carries out the end of a block: continues with another block, or ends the frame.
     pub fn end_block(&mut self, end: &BlockEnd) -> Result<(), Stop>
         ensures { Performs self.old self.new result
             (steps.do_end (code_of self.old) (view.block_end end.now) (state_in self.old)) }
@@ -37,7 +37,7 @@ impl<'a> Replayer<'a> {
         }
     }
 
-    // The run goes on with a block of the function that runs.
+    // Continues with a block of the current function.
     fn enter_block(&mut self, block: u32)
         ensures state { state_in self.new
             ≡ steps.enters (code_of self.old) block (state_in self.old) }
@@ -47,7 +47,7 @@ impl<'a> Replayer<'a> {
         self.position = Position { block, done: 0 };
     }
 
-    // A test: the way that it takes shows (C11 6.8.4.1, 6.8.5).
+    // A test: the branch that it takes shows (C11 6.8.4.1, 6.8.5).
     fn branch(&mut self, place: Place, temporary: u32, one: u32, other: u32) -> Result<(), Stop>
         ensures { Performs self.old self.new result
             (steps.do_end (code_of self.old) (graph.Branch place temporary one other)
@@ -85,7 +85,7 @@ impl<'a> Replayer<'a> {
         Ok(())
     }
 
-    // The frame is left with a temporary.
+    // Returns a temporary from the frame.
     fn give_back(&mut self, temporary: u32) -> Result<(), Stop>
         ensures { Performs self.old self.new result
             (steps.do_end (code_of self.old) (graph.Return temporary) (state_in self.old)) }
@@ -96,7 +96,7 @@ impl<'a> Replayer<'a> {
     }
 }
 
-// The block to which a test leads.
+// Returns the block to which a test leads.
 fn chosen(holds: bool, one: u32, other: u32) -> u32
     ensures { result ≡ (if holds then one else other) }
 {

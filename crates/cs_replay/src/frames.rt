@@ -7,7 +7,7 @@ use cs_frames::frames::zeros;
 use cs_run_state::machine::Frame;
 use std::alloc::{AllocError, Global};
 
-/// A frame in which the graph of a function begins.
+/// Returns a frame at the beginning of the graph of a function.
 pub fn new_frame<'a>(
     alloc: Global,
     function: u32,

@@ -1,4 +1,4 @@
-//! The replayer: it runs the code of a program from given inputs, operation by operation.
+//! The replayer: it runs the code of a program on given inputs, operation by operation.
 #![tactic(auto, using(cs_run_log::proofs::Performing::silent))]
 
 mod accesses;

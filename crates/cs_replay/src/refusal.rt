@@ -1,14 +1,14 @@
-//! Why there is no replay.
+//! Why a replay fails.
 ghost use Rattle.std.specs.Prelude.{◌≡◌};
 ghost use Rattle.cs_replay.specs.declared.refusal.ReplayRefusal.TheVariants.{Memory};
 
 use std::alloc::AllocError;
 use thiserror::Error;
 
-/// Why there is no replay.
+/// Why a replay fails.
 #[derive(Clone, Copy, Debug, Error)]
 pub enum ReplayRefusal {
-    /// The entry is no function with a body.
+    /// The entry isn't a function with a body.
     #[error("the entry is no function with a body")]
     NoEntry,
     /// Memory ran out.

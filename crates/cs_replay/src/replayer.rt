@@ -1,19 +1,19 @@
-//! A run of code on its way.
+//! A run of code in progress.
 
 use cs_cfg::Code;
 use cs_positions::Position;
 use cs_run_state::machine::Frame;
 use cs_runner::runner::Runner;
 
-/// A frame that waits for the value of a call, and how far it has come.
+/// A frame that waits for the value of a call, and its position in the code.
 #[derive(Drop)]
 pub struct Caller<'a> {
     pub frame: Frame<'a>,
     pub position: Position,
 }
 
-/// A run of code on its way: what the operations of the frame that runs work on, how far that frame has come, and the frames that
-/// called it, the nearest last.
+/// A run of code in progress: the state on which the operations of the current frame work, the position of that frame in the code, and the
+/// frames below it on the call stack, its caller last.
 #[derive(Drop)]
 pub struct Replayer<'a> {
     pub runner: Runner<'a>,

@@ -21,14 +21,14 @@ use cs_positions::flow_at;
 use cs_run_log::{Log, Stop};
 use std::alloc::{AllocError, Global};
 
-/// A replay that has ended: how, and what the run has shown, read and touched.
+/// A replay that has ended: its outcome, and its log of events, lookups and touches.
 #[derive(Drop)]
 pub struct Replayed {
     pub outcome: Outcome,
     pub log: Log,
 }
 
-// A run that is to be followed, which ends.
+// A run to be followed, with the fact that it ends.
 #[derive(Drop)]
 struct Course<'a> {
     setting: &'a Setting<'a>,
@@ -37,7 +37,7 @@ struct Course<'a> {
     ghost ends: { HasLength (code_step (view.code code.now) (typed_program setting.now.program.now) setting.now.budgets) (meaning.setting_of (typed_program setting.now.program.now) (run_of setting.now) setting.now.budgets) (code_start (view.code code.now) (typed_program setting.now.program.now) entry (run_of setting.now)) empty } by { HasLength-prop (code_step (view.code code.now) (typed_program setting.now.program.now) setting.now.budgets) (meaning.setting_of (typed_program setting.now.program.now) (run_of setting.now) setting.now.budgets) (code_start (view.code code.now) (typed_program setting.now.program.now) entry (run_of setting.now)) empty },
 }
 
-/// Runs the code of a function of a program until the run ends: as the reference machine's run of the function does, with the same log.
+/// Runs the code of a function of a program to the end of the run; the outcome and the log are those of the reference machine's run.
 pub fn replay(
     alloc: Global,
     setting: &Setting,

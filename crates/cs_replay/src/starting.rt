@@ -22,7 +22,7 @@ use cs_run_state::machine::{Frame, Machine};
 use cs_runner::runner::Runner;
 use std::alloc::{AllocError, Global};
 
-/// A run in the first frame of an entry, whose parameters hold the values of their paths. An entry without a graph has nothing to do.
+/// Returns a run in the first frame of an entry, whose parameters hold the values of their paths. An entry without a graph has nothing to do.
 pub fn begin<'a>(
     alloc: Global,
     setting: &'a Setting<'a>,
@@ -55,7 +55,7 @@ pub fn begin<'a>(
     })
 }
 
-// The block in which a graph begins, and how many counted points it has.
+// Returns the block where a graph begins, and the number of its counted points.
 fn beginning(flow: Option<&Flow>) -> (u32, u32)
     ensures entry { result.0 ≡ (unwrap_or (flow_found flow.entry) no_flow).entry }
     ensures counted_points { result.1
@@ -67,7 +67,7 @@ fn beginning(flow: Option<&Flow>) -> (u32, u32)
     }
 }
 
-// Another frame runs.
+// Replaces the current frame.
 fn put_in<'a>(state: &mut Machine<'a>, frame: Frame<'a>)
     ensures { state.new ≡ record state.old { frame = frame.entry } }
 {

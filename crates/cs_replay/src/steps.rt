@@ -17,7 +17,7 @@ use cs_values::{Cell, Operand};
 use std::alloc::AllocError;
 
 impl<'a> Replayer<'a> {
-    /// One step: the next operation of the block, or its end.
+    /// Carries out one step: the next operation of the block, or its end.
     pub fn step(&mut self) -> Result<(), Stop>
         requires { IsReady self.old }
         ensures { Performs self.old self.new result
@@ -39,7 +39,7 @@ impl<'a> Replayer<'a> {
         }
     }
 
-    // One more of the things that the block does is done.
+    // Advances the position by one step of the block.
     fn advance(&mut self) -> Result<(), AllocError>
         ensures { OnOk result (self.new
             ≡ record self.old {
@@ -50,7 +50,7 @@ impl<'a> Replayer<'a> {
         Ok(())
     }
 
-    // A loop head or a label is reached.
+    // Reaches a loop head or a label.
     fn reach(&mut self, counted_point: &CountedPoint) -> Result<(), Stop>
         ensures { Performs self.old self.new result
             (steps.do_operation (code_of self.old) (program_of self.old) (budgets_of self.old)
@@ -65,7 +65,7 @@ impl<'a> Replayer<'a> {
         Ok(())
     }
 
-    // An operation works on the temporaries from its number on; those after its operands are dropped.
+    // Carries out an operation on the temporaries from its number on; those after its operands are dropped.
     fn operate(&mut self, operation: &'a Operation) -> Result<(), Stop>
         requires { IsReady self.old }
         ensures { Performs self.old self.new result
@@ -77,7 +77,7 @@ impl<'a> Replayer<'a> {
         self.work(operation.place, &operation.work)
     }
 
-    // An operation works, whose operands are the newest temporaries.
+    // Carries out an operation on the newest temporaries.
     fn work(&mut self, place: Place, one: &'a Work) -> Result<(), Stop>
         requires { IsReady self.old }
         ensures { Performs self.old self.new result

@@ -1,4 +1,4 @@
-//! What operations do with values (C11 6.3, 6.5).
+//! Operations on values (C11 6.3, 6.5).
 ghost use Rattle.std.specs.Prelude.{◌≡◌, OnOk, IfErr};
 ghost use Rattle.cs_types.specs.Shape.{shape_of};
 ghost use Rattle.cs_meaning.specs.Machine as machine;
@@ -18,7 +18,7 @@ use cs_types::{CType, IntType};
 use cs_values::constants::{truth_cell, unary_operation};
 use cs_values::{Cell, Object, Operand, stride_of};
 
-/// A scalar is left.
+/// Pushes a scalar.
 pub fn give(run: &mut Runner, cell: Cell) -> Result<(), Stop>
     ensures { Performs run.old run.new result
         (Goes (machine.push_cell (cell_of cell) (state_in run.old))) }
@@ -27,7 +27,7 @@ pub fn give(run: &mut Runner, cell: Cell) -> Result<(), Stop>
     Ok(())
 }
 
-/// The place of a local of the frame is left.
+/// Pushes the lvalue of a local of the frame.
 pub fn local_place(run: &mut Runner, place: Place, declaration: u32) -> Result<(), Stop>
     ensures { Performs run.old run.new result
         (works (program_of run.old) (budgets_of run.old) place (graph.Local declaration)
@@ -38,7 +38,7 @@ pub fn local_place(run: &mut Runner, place: Place, declaration: u32) -> Result<(
     Ok(())
 }
 
-/// No value is left.
+/// Pushes no value.
 pub fn give_nothing(run: &mut Runner, place: Place) -> Result<(), Stop>
     ensures { Performs run.old run.new result
         (works (program_of run.old) (budgets_of run.old) place graph.Nothing (state_in run.old)) }
@@ -47,7 +47,7 @@ pub fn give_nothing(run: &mut Runner, place: Place) -> Result<(), Stop>
     Ok(())
 }
 
-/// A pointer that is moved by an amount of elements of so many bytes (C11 6.5.2.1, 6.5.6).
+/// Adds a number of elements of a size in bytes to a pointer, or subtracts it (C11 6.5.2.1, 6.5.6).
 pub fn sum(
     run: &mut Runner,
     place: Place,
@@ -66,7 +66,7 @@ pub fn sum(
     Ok(())
 }
 
-/// The place of a member (C11 6.5.2.3).
+/// Pushes the lvalue of a member (C11 6.5.2.3).
 pub fn member(run: &mut Runner, place: Place, offset: u64) -> Result<(), Stop>
     ensures { Performs run.old run.new result
         (works (program_of run.old) (budgets_of run.old) place (graph.Member offset)
@@ -77,7 +77,7 @@ pub fn member(run: &mut Runner, place: Place, offset: u64) -> Result<(), Stop>
     Ok(())
 }
 
-/// The member of what a pointer points to (C11 6.5.2.3).
+/// Pushes the lvalue of a member through a pointer (C11 6.5.2.3).
 pub fn arrow(run: &mut Runner, place: Place, offset: u64) -> Result<(), Stop>
     ensures { Performs run.old run.new result
         (works (program_of run.old) (budgets_of run.old) place (graph.Arrow offset)
@@ -89,7 +89,7 @@ pub fn arrow(run: &mut Runner, place: Place, offset: u64) -> Result<(), Stop>
     Ok(())
 }
 
-/// A conversion (C11 6.3).
+/// Converts a value (C11 6.3).
 pub fn convert(run: &mut Runner, place: Place, from: &CType, to: &CType) -> Result<(), Stop>
     ensures { Performs run.old run.new result
         (works (program_of run.old) (budgets_of run.old) place
@@ -101,7 +101,7 @@ pub fn convert(run: &mut Runner, place: Place, from: &CType, to: &CType) -> Resu
     Ok(())
 }
 
-/// An operator of one integer (C11 6.5.3.3).
+/// Applies a unary integer operator (C11 6.5.3.3).
 pub fn unary(run: &mut Runner, place: Place, operator: UnOp, ty: IntType) -> Result<(), Stop>
     ensures { Performs run.old run.new result
         (works (program_of run.old) (budgets_of run.old) place (graph.Unary operator ty)
@@ -114,7 +114,7 @@ pub fn unary(run: &mut Runner, place: Place, operator: UnOp, ty: IntType) -> Res
     Ok(())
 }
 
-/// Whether an operand doesn't hold (C11 6.5.3.3).
+/// Applies the operator `!` (C11 6.5.3.3).
 pub fn not(run: &mut Runner, place: Place) -> Result<(), Stop>
     ensures { Performs run.old run.new result
         (works (program_of run.old) (budgets_of run.old) place graph.Not (state_in run.old)) }
@@ -126,7 +126,7 @@ pub fn not(run: &mut Runner, place: Place) -> Result<(), Stop>
     Ok(())
 }
 
-/// An operator of two integers (C11 6.5.5 to 6.5.7, 6.5.10 to 6.5.12).
+/// Applies a binary integer operator (C11 6.5.5 to 6.5.7, 6.5.10 to 6.5.12).
 pub fn binary(run: &mut Runner, place: Place, operator: BinOp, ty: IntType) -> Result<(), Stop>
     ensures { Performs run.old run.new result
         (works (program_of run.old) (budgets_of run.old) place (graph.Binary operator ty)
@@ -140,7 +140,7 @@ pub fn binary(run: &mut Runner, place: Place, operator: BinOp, ty: IntType) -> R
     Ok(())
 }
 
-/// A comparison (C11 6.5.8, 6.5.9).
+/// Compares two values (C11 6.5.8, 6.5.9).
 pub fn compare(run: &mut Runner, place: Place, operator: CmpOp) -> Result<(), Stop>
     ensures { Performs run.old run.new result
         (works (program_of run.old) (budgets_of run.old) place (graph.Compare operator)
@@ -154,7 +154,7 @@ pub fn compare(run: &mut Runner, place: Place, operator: CmpOp) -> Result<(), St
     Ok(())
 }
 
-/// How many elements of so many bytes lie between two pointers (C11 6.5.6).
+/// Subtracts two pointers, in elements of a size in bytes (C11 6.5.6).
 pub fn difference(run: &mut Runner, place: Place, bytes: u64) -> Result<(), Stop>
     ensures { Performs run.old run.new result
         (works (program_of run.old) (budgets_of run.old) place (graph.Difference bytes)

@@ -1,4 +1,4 @@
-//! Ways out of a `switch` (C11 6.8.4.2).
+//! The cases of a `switch`, as ways out of it (C11 6.8.4.2).
 ghost use Rattle.std.specs.Prelude.{◌≡◌, IfOk, map};
 ghost use Rattle.cs_cfg.specs.CodeSteps as steps;
 ghost use Rattle.cs_cfg.specs.GraphView as view;
@@ -14,7 +14,7 @@ pub struct Way {
     pub block: u32,
 }
 
-/// The way that a number leads: that of the first case with it.
+/// Returns the way for a number: that of the first case with it.
 pub fn way_of(cases: &[SwitchCase], otherwise: u32, number: i128) -> Result<Way, AllocError>
     ensures { IfOk result (λ way.
         way_seen way ≡ steps.way_of (map view.switch_case cases.now) otherwise number 0) }

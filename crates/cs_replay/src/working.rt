@@ -1,4 +1,4 @@
-//! What an operation does with its operands, which are the newest temporaries.
+//! Operations on their operands, which are the newest temporaries.
 ghost use Rattle.std.specs.Prelude.{◌≡◌, OnOk, IfErr};
 ghost use Rattle.cs_events.specs.Acts.{Goes};
 ghost use Rattle.cs_meaning.specs.Machine as machine;
@@ -23,7 +23,7 @@ use cs_run_log::{Stop, Touch};
 use cs_runner::runner::Runner;
 use cs_values::{Cell, Object, Operand};
 
-/// Does what an operation does that is no call; a call goes on in another frame, and here does nothing.
+/// Carries out an operation other than a call; for a call, which continues in another frame, it does nothing.
 pub fn work<'a>(run: &mut Runner<'a>, place: Place, one: &'a Work) -> Result<(), Stop>
     requires { IsReady run.old }
     ensures { Performs run.old run.new result
@@ -84,7 +84,7 @@ fn free(run: &mut Runner, place: Place) -> Result<(), Stop>
     run.release(place, pointer)
 }
 
-// The run meets a control point.
+// The run reaches a control point.
 fn meet(run: &mut Runner, place: Place, kind: PointKind) -> Result<(), Stop>
     ensures { Performs run.old run.new result
         (works (program_of run.old) (budgets_of run.old) place (graph.Meet kind)
@@ -94,7 +94,7 @@ fn meet(run: &mut Runner, place: Place, kind: PointKind) -> Result<(), Stop>
     Ok(())
 }
 
-// The run meets the end of a function's body.
+// The run reaches the end of a function's body.
 fn close(run: &mut Runner, place: Place, nothing: bool) -> Result<(), Stop>
     ensures { Performs run.old run.new result
         (works (program_of run.old) (budgets_of run.old) place (graph.Close nothing)
@@ -105,7 +105,7 @@ fn close(run: &mut Runner, place: Place, nothing: bool) -> Result<(), Stop>
     Ok(())
 }
 
-// What the end of a function's body gives: nothing, or a value that was never set (C11 6.9.1, paragraph 12).
+// Returns the result at the end of a function's body: nothing, or an unset value (C11 6.9.1, paragraph 12).
 fn closed_with(nothing: bool) -> Operand
     ensures { operand_of result ≡ working.closed_with nothing }
 {
@@ -116,7 +116,7 @@ fn closed_with(nothing: bool) -> Operand
     }
 }
 
-/// How many operands an operation has.
+/// Returns the number of operands of an operation.
 pub fn takes(work: &Work) -> u32
     ensures { result ≡ working.takes (view.work work.now) }
 {
@@ -137,7 +137,7 @@ pub fn takes(work: &Work) -> u32
     }
 }
 
-// How many arguments an allocation has (C11 7.22.3).
+// Returns the number of arguments of an allocation function (C11 7.22.3).
 fn allocator_takes(allocator: Allocator) -> u32
     ensures { result ≡ working.allocator_takes allocator }
 {

@@ -1,4 +1,4 @@
--- Pieces in a row of which the last one ends the run: for the contracts of what asks several questions.
+-- Consecutive pieces of which the last one ends the run: for the contracts of what shows several operations.
 use Rattle.std.proofs.Common.{◌≡◌, sym, subst}
 use Rattle.cs_events.specs.Runs.{Log, Performed}
 use Rattle.cs_meaning.specs.Machine.{State}

@@ -1,4 +1,4 @@
--- What performing each act comes to: for every contract that speaks of acts.
+-- The result of performing each act: for every contract on acts.
 use Rattle.std.proofs.Common.{◌≡◌, ℤ, Bool, refl}
 use Rattle.std.specs.Prelude.{if◌then◌else◌}
 use Rattle.std.proofs.lemmas.Int.{to_z-of_z}

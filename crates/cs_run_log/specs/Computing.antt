@@ -1,4 +1,4 @@
--- What an update computes.
+-- The result of an update.
 use Rattle.std.specs.Prelude.{ℤ}
 use Rattle.cs_types.specs.declared.int_type.IntType.{IntType}
 use Rattle.cs_types.specs.Shape.{integer}
@@ -11,7 +11,7 @@ use Rattle.cs_meaning.specs.Access.{Access}
 use Rattle.cs_meaning.specs.Operators.{operate, convert_number}
 use Rattle.cs_meaning.specs.Machine.{State}
 
--- the number that an update computes, in the type of the object
+-- the result of an update, in the type of the object
 abbrev pub computes : TypedProgram → Place → BinOp → Access → IntType → ℤ → ℤ → (ℤ → Act State) → Act State
 computes program at op access works_in left right onward =
     operate program.model at op works_in left right (λ number.

@@ -1,4 +1,4 @@
--- What a run has shown, read and touched, and what it goes by, seen as the reference machine's.
+-- The log and the setting of a run, seen as the reference machine's.
 use Rattle.std.specs.Prelude.{map}
 use Rattle.cs_inputs.specs.Inputs.{number_at}
 use Rattle.cs_events.specs.Touches as touches
@@ -25,7 +25,7 @@ pending_of (pending.Operates place operation) = events.Operates place operation
 pending_of (pending.Tries place path) = events.Tries place path
 pending_of (pending.Accesses place object offset) = events.Accesses place (object_of object.value) offset
 
--- what a run has shown, read and touched
+-- the log of a run
 abbrev pub log_of : Log → runs.Log
 log_of log = record {
   events = log.events.items;
@@ -34,7 +34,7 @@ log_of log = record {
   touches = map touch_of log.touches.items;
 }
 
--- what a run goes by
+-- the setting of a run
 abbrev pub setting_of : Setting → runs.Setting
 setting_of setting = record {
   model = setting.program.now.model;

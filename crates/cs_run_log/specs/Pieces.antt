@@ -1,4 +1,4 @@
--- What a piece of a step does, for every way to go on from it.
+-- The effect of a piece of a step, for every continuation.
 use Rattle.std.specs.Prelude.{◌≡◌, ℕ, ℤ, pos, neg_ℤ, ◌+ℤ◌, ◌-ℤ◌, ◌*ℤ◌, true, Option, Some, None, if◌then◌else◌, Result, ⊤}
 use Rattle.std.specs.Prelude.{OnOk, IfErr}
 use Rattle.cs_types.specs.declared.data_model.DataModel.{DataModel}
@@ -25,39 +25,39 @@ use Rattle.cs_run_log.specs.declared.logs.Stop.{Stop}
 use Rattle.cs_run_log.specs.declared.logs.Stop.TheVariants as stop
 use Rattle.cs_run_log.specs.LogView.{setting_of, log_of}
 
--- how a run has ended with a log; where memory was short nothing is said, and what it would have come to stands for it
+-- the end of a run with a log; if memory ran out nothing is claimed: the result is `otherwise`
 abbrev pub finished : Stop → runs.Log → Performed State → Performed State
 finished (stop.Outcome outcome) log otherwise = Finishes outcome log
 finished stop.Memory log otherwise = otherwise
 
 module _ (setting : Setting) (before following : Log) where
-  -- however it is gone on: the piece, performed with the log before it, is what follows, performed with the log after it
+  -- for every continuation: performing the piece with the log before it is performing the continuation with the log after it
   abbrev pub GoesOn : (Act State → Act State) → Type 0
   GoesOn piece = (onward : Act State) → perform (setting_of setting) (log_of before) (piece onward) ≡ perform (setting_of setting) (log_of following) onward
 
-  -- the same of a piece that has an answer
+  -- the same for a piece with an answer
   abbrev pub Gives : {A : Type 0} → ((A → Act State) → Act State) → A → Type 0
   Gives {A = A} piece answer = (onward : A → Act State)
       → perform (setting_of setting) (log_of before) (piece onward) ≡ perform (setting_of setting) (log_of following) (onward answer)
 
-  -- however it would be gone on: the run ends in the piece
+  -- for every continuation: the run ends in the piece
   abbrev pub EndsIn : (Act State → Act State) → Stop → Type 0
   EndsIn piece stop = (onward : Act State) → perform (setting_of setting) (log_of before) (piece onward)
       ≡ finished stop (log_of following) (perform (setting_of setting) (log_of before) (piece onward))
 
-  -- the same of a piece that would have an answer
+  -- the same for a piece that would have an answer
   abbrev pub StopsIn : {A : Type 0} → ((A → Act State) → Act State) → Stop → Type 0
   StopsIn {A = A} piece stop = (onward : A → Act State)
       → perform (setting_of setting) (log_of before) (piece onward)
       ≡ finished stop (log_of following) (perform (setting_of setting) (log_of before) (piece onward))
 
 module _ (setting : Setting) (before following : Log) where
-  -- the same of a piece that has two answers, of which the first may be memory
+  -- the same for a piece with two answers, of which the first may be memory
   abbrev pub GivesBoth : {A B : Type 0} → ((A → B → Act State) → Act State) → A → B → Type 0
   GivesBoth {A = A} {B = B} piece one other = (onward : A → B → Act State)
       → perform (setting_of setting) (log_of before) (piece onward) ≡ perform (setting_of setting) (log_of following) (onward one other)
 
-  -- the same of a piece that would have two answers
+  -- the same for a piece that would have two answers
   abbrev pub StopsInBoth : {A B : Type 0} → ((A → B → Act State) → Act State) → Stop → Type 0
   StopsInBoth {A = A} {B = B} piece stop = (onward : A → B → Act State)
       → perform (setting_of setting) (log_of before) (piece onward)
@@ -71,21 +71,21 @@ module _ (setting : Setting) (before following : Log) where
   abbrev pub EndsBy : Act State → Stop → Type 0
   EndsBy act stop = perform (setting_of setting) (log_of before) act ≡ finished stop (log_of following) (perform (setting_of setting) (log_of before) act)
 
--- what a call comes to that performs an act: the act leads to this state, or has ended the run
+-- what a call that performs an act ensures: the act leads to this state, or ends the run
 pub record LeadsOrEnds (setting : Setting) (before following : Log) (result : Result ⊤ Stop) (act : Act State) (next : State) : Type 0 where
   pub ok : OnOk result (LeadsTo setting before following act next)
   pub err : IfErr result (EndsBy setting before following act)
 
--- an act that follows where there is no fault
+-- an act that follows if there is no fault
 abbrev pub or_fault : Place → Option Kind → Act State → Act State
 or_fault at None act = act
 or_fault at (Some kind) act = Stops (Fault kind at)
 
--- an order test that is a fault where it doesn't hold
+-- an order test that is a fault if it fails
 abbrev pub holds_or_faults : Place → Operation → Act State → Act State
 holds_or_faults at test act = Asks at test (λ number. if is_true number then act else Stops (Fault Bounds at))
 
--- the offset of a pointer that is moved, within its bounds
+-- the offset of a moved pointer, within its bounds
 abbrev pub moves_offset : DataModel → Place → ℤ → ℤ → ℕ → (ℤ → Act State) → Act State
 moves_offset model at offset amount size onward =
     shows_then at (Look true)
@@ -93,7 +93,7 @@ moves_offset model at offset amount size onward =
     (ordered at (pos (offset_bound_of model) -ℤ offset) (neg_ℤ (amount *ℤ pos size))
     (Asks at (operation.Sum offset amount size) onward)))
 
--- two pointers compared that have shown whether they are null
+-- a comparison of two pointers that have shown whether they are null
 abbrev pub compares_seen : Place → CmpOp → Cell → Cell → (ℤ → Act State) → Act State
 compares_seen at operator left right onward =
     if asks_order operator

@@ -1,4 +1,4 @@
-//! What a run has shown, read and touched, and the operators that show.
+//! The log of a run, and the operators that show.
 #![tactic(auto, using(crate::proofs::Performing::silent))]
 
 pub mod logs;

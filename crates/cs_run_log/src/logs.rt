@@ -1,4 +1,4 @@
-//! What a run has shown, read and touched, and the questions that it shows.
+//! The log of a run: its events, lookups and touches.
 #![tactic(auto, using(crate::proofs::Performing::performing))]
 
 ghost use Rattle.std.specs.Prelude.{◌≡◌, true, false, IfOk, OnOk, IfErr};
@@ -26,30 +26,30 @@ use cs_values::arithmetic::{Computed, is_true, own_result};
 use cs_values::{Cell, Object};
 use std::alloc::{AllocError, AllocFailed, Global};
 
-/// A control point that is met, or what happens at a place to a scalar local of a frame.
+/// A control point that is reached, or an access to a scalar local of a frame at a source position.
 #[derive(Clone, Copy, Debug, PartialEq, Eq)]
 pub enum Touch {
     Meets(PointKind, Place),
-    /// A load of a declaration's object, by the frame's number and the declaration's.
+    /// A load of a local, by the frame's number and the declaration's.
     Loads(u64, u32, Place),
     /// A store to it.
     Stores(u64, u32, Place),
-    /// A declaration that unsets it.
+    /// A declaration that makes it unset.
     Clears(u64, u32, Place),
 }
 
-/// What is about to show as an event at a place.
+/// What is about to show as an event at a source position.
 #[derive(Drop)]
 pub enum Pending {
     /// An operation with its operands.
     Operates(Place, Operation),
-    /// An allocation, by the path of the input that decides whether it gives a block.
+    /// An allocation, by the path of the input that decides whether it returns a block.
     Tries(Place, Path),
     /// An access to an object at an offset in bytes. The object is boxed, so that an entry takes no more than an operation needs.
     Accesses(Place, Box<Object>, i128),
 }
 
-/// What a run has shown, read and touched so far, each in order.
+/// The events, lookups and touches of a run so far, each in order.
 #[derive(Drop)]
 pub struct Log {
     pub events: Vec<Event>,
@@ -59,12 +59,12 @@ pub struct Log {
     pub touches: Vec<Touch>,
 }
 
-/// Why a piece of a run does not go on.
+/// Why a run can't continue.
 #[derive(Clone, Copy, Debug, PartialEq, Eq)]
 pub enum Stop {
-    /// The run ended so.
+    /// The run ended with this outcome.
     Outcome(Outcome),
-    /// Memory is short.
+    /// Memory ran out.
     Memory,
 }
 
@@ -85,7 +85,7 @@ impl<T: Drop> From<AllocFailed<T>> for Stop {
 }
 
 impl Log {
-    /// Nothing.
+    /// Returns an empty log.
     pub fn new(alloc: Global) -> Log
         ensures { log_of result ≡ runs.empty }
     {
@@ -97,7 +97,7 @@ impl Log {
         }
     }
 
-    /// An operation shows at a place. Its result leads on, or the number that is guessed in its place.
+    /// Shows an operation at a source position. Returns its result, or the number that is guessed instead.
     pub fn ask(
         &mut self,
         setting: &Setting,
@@ -117,7 +117,7 @@ impl Log {
         Ok(leading(own.number, guess))
     }
 
-    /// A label shows at a place.
+    /// Shows a label at a source position.
     pub fn show(&mut self, setting: &Setting, place: Place, label: Label) -> Result<(), Stop>
         ensures ok { OnOk result (GoesOn setting.now self.old self.new (shows_then place label)) }
         ensures err { IfErr result (EndsIn setting.now self.old self.new (shows_then place label)) }
@@ -133,7 +133,7 @@ impl Log {
         Ok(())
     }
 
-    /// An input of a kind is looked up: what it gives.
+    /// Looks up an input of a kind, and returns its cell.
     pub fn read_input(
         &mut self,
         setting: &Setting,
@@ -151,7 +151,7 @@ impl Log {
         Ok(cell)
     }
 
-    /// An allocation shows at a place: whether it gives a block is an input.
+    /// Shows an allocation at a source position, and returns whether it returns a block: that is an input.
     pub fn try_allocation(
         &mut self,
         setting: &Setting,
@@ -170,7 +170,7 @@ impl Log {
         Ok(given)
     }
 
-    /// An access shows the offset that it has reached in an object.
+    /// Shows the offset that an access has reached in an object.
     pub fn show_offset(
         &mut self,
         setting: &Setting,
@@ -192,7 +192,7 @@ impl Log {
         Ok(())
     }
 
-    /// A touch, which shows nothing.
+    /// Records a touch, which shows no event.
     pub fn touch(&mut self, touch: Touch) -> Result<(), AllocError>
         ensures { OnOk result ((setting : SettingOfRun)
             → GoesOn setting self.old self.new (Touches (touch_of touch))) }
@@ -201,14 +201,14 @@ impl Log {
         Ok(())
     }
 
-    // Whether one more event may be passed.
+    // Whether the budget of events allows one more.
     fn allows_event(&self, setting: &Setting) -> bool
         ensures { result ≡ runs.allows_event (setting_of setting.now) (log_of self.now) }
     {
         (self.events.len() as u64) < setting.budgets.events
     }
 
-    // One more event, and what was pending there.
+    // Appends an event, and what was pending there.
     fn push(&mut self, pending: Pending, place: Place, label: Label) -> Result<(), AllocError>
         ensures { OnOk result (log_of self.new
             ≡ runs.with_event (log_of self.old) (pending_of pending)
@@ -219,7 +219,7 @@ impl Log {
         Ok(())
     }
 
-    // One more input that was looked up.
+    // Appends an input that was looked up.
     fn look_up(&mut self, path: Path, kind: InputKind) -> Result<(), AllocError>
         ensures { OnOk result (log_of self.new ≡ runs.with_read (log_of self.old) path kind) }
     {
@@ -227,7 +227,7 @@ impl Log {
         Ok(())
     }
 
-    // The guess that is used at the next event.
+    // Returns the guess that is used at the next event, if any.
     fn used_guess(&self, setting: &Setting, operation: Operation) -> Option<i128>
         ensures { result ≡ runs.used_guess (setting_of setting.now) (log_of self.now) operation }
     {
@@ -241,7 +241,7 @@ impl Log {
     }
 }
 
-// The number of the first guess that is listed for an event.
+// Returns the number of the first guess listed for an event.
 fn guess_at(guesses: &[Guess], event: u64) -> Option<i128>
     ensures { result ≡ runs.guess_at guesses.now event }
 {
@@ -253,7 +253,7 @@ fn guess_at(guesses: &[Guess], event: u64) -> Option<i128>
     None
 }
 
-// The number that leads on: the guess, or the operation's own result.
+// Returns the number that a run continues with: the guess, or the operation's own result.
 fn leading(number: i128, guess: Option<i128>) -> i128
     ensures { (model : DataModel) (operation : Operation)
         → number ≡ operations.own_result model operation
@@ -265,14 +265,14 @@ fn leading(number: i128, guess: Option<i128>) -> i128
     }
 }
 
-// What a truth shows.
+// Returns the label of a truth value.
 fn truth_label(number: i128) -> Label
     ensures { result ≡ Label.Truth (operations.is_true number) }
 {
     Label::Truth(is_true(number))
 }
 
-// What an operation shows.
+// Returns the label of an operation.
 fn label(operation: Operation, own: Computed, guess: Option<i128>) -> Label
     ensures { (model : DataModel) → IsOwn model operation own
         → result ≡ operations.shows model operation guess }
@@ -290,7 +290,7 @@ fn label(operation: Operation, own: Computed, guess: Option<i128>) -> Label
     }
 }
 
-// How a result lies to its type, or that it is guessed.
+// Returns the label of a wrap quotient, or that of a guess.
 fn wrap_or_guess(wrap: Wrap, guess: Option<i128>) -> Wrap
     ensures { (model : DataModel) (operation : Operation)
         → wrap ≡ operations.wrap_of (operations.own_quotient model operation)
@@ -302,7 +302,7 @@ fn wrap_or_guess(wrap: Wrap, guess: Option<i128>) -> Wrap
     }
 }
 
-// What the offset of an access shows: the offset modulo 2^64.
+// Returns the label of an access: its offset modulo 2^64.
 fn offset_shown(offset: i128) -> u64
     ensures { result ≡ operations.offset_shown offset }
 {

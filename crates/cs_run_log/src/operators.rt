@@ -1,4 +1,4 @@
-//! What operators do with their operands (C11 6.3, 6.5.3 to 6.5.10): what is checked, what shows, and what leads on.
+//! Operators on values (C11 6.3, 6.5.3 to 6.5.10): their checks, their events, and the results that a run continues with.
 ghost use Rattle.std.specs.Prelude.{◌≡◌, IfOk, OnOk, IfErr, Some, None};
 ghost use Rattle.cs_types.specs.Shape.{shape_of, integer};
 ghost use Rattle.cs_ast.specs.TypedProgram.{typed_program};
@@ -28,7 +28,7 @@ use cs_values::operations::{
 };
 use cs_values::{Cell, Operand, Stride};
 
-/// The end of a run by a fault.
+/// Returns the end of a run in a fault.
 pub fn fault(kind: Kind, place: Place) -> Stop
     ensures { result ≡ Stop.Outcome (Outcome.Fault kind place) }
 {
@@ -36,7 +36,7 @@ pub fn fault(kind: Kind, place: Place) -> Stop
 }
 
 impl Log {
-    /// A pointer shows whether it is null; nothing else shows.
+    /// Shows whether a pointer is null; other values show nothing.
     pub fn look(&mut self, setting: &Setting, place: Place, cell: &Cell) -> Result<(), Stop>
         ensures ok { OnOk result
             (GoesOn setting.now self.old self.new (loads.look place (cell_of cell.now))) }
@@ -57,7 +57,7 @@ impl Log {
         }
     }
 
-    /// Whether a value counts as true (C11 6.8.4.1, paragraph 2).
+    /// Returns whether a value is true (C11 6.8.4.1, paragraph 2).
     pub fn truth(&mut self, setting: &Setting, place: Place, cell: &Cell) -> Result<bool, Stop>
         ensures ok { IfOk result
             (Gives setting.now self.old self.new (operators.truth place (cell_of cell.now))) }
@@ -78,7 +78,7 @@ impl Log {
         }
     }
 
-    /// A test: the way that it takes shows.
+    /// Returns the branch that a test takes, which shows.
     pub fn branch(&mut self, setting: &Setting, place: Place, cell: &Cell) -> Result<bool, Stop>
         ensures ok { IfOk result
             (Gives setting.now self.old self.new (operators.branch place (cell_of cell.now))) }
@@ -91,7 +91,7 @@ impl Log {
         Ok(holds)
     }
 
-    /// An order test, which is a fault where it doesn't hold.
+    /// Shows an order test, which is a fault if it fails.
     pub fn order(&mut self, setting: &Setting, place: Place, test: Operation) -> Result<(), Stop>
         ensures ok { OnOk result
             (GoesOn setting.now self.old self.new (holds_or_faults place test)) }
@@ -106,7 +106,7 @@ impl Log {
         }
     }
 
-    /// An operator of two integers.
+    /// Returns the result of a binary integer operator.
     pub fn operate(
         &mut self,
         setting: &Setting,
@@ -132,7 +132,7 @@ impl Log {
         Ok(number)
     }
 
-    /// A conversion of a number of a type, which shows where the new type doesn't hold every number of the old one
+    /// Converts a number from a type, which shows unless all numbers of the old type are in the new one
     /// (C11 6.3.1.3).
     pub fn convert_number(
         &mut self,
@@ -159,8 +159,8 @@ impl Log {
         }
     }
 
-    /// A conversion of a value of a type. Only that of a number to an integer type changes it; of a void value nothing is
-    /// left (C11 6.3.2.2).
+    /// Converts a value from a type. Only a conversion of a number to an integer type changes it; the result of one from `void` is nothing
+    /// (C11 6.3.2.2).
     pub fn convert(
         &mut self,
         setting: &Setting,
@@ -247,7 +247,7 @@ impl Log {
         }
     }
 
-    /// A pointer moved: its offset stays within its bounds (C11 6.5.6, paragraph 8).
+    /// Returns a pointer plus a stride: its offset stays within its bounds (C11 6.5.6, paragraph 8).
     pub fn sum(
         &mut self,
         setting: &Setting,
@@ -282,7 +282,7 @@ impl Log {
         }
     }
 
-    // The offset of a pointer that is moved.
+    // Returns the offset of a moved pointer.
     fn move_offset(
         &mut self,
         setting: &Setting,
@@ -308,7 +308,7 @@ impl Log {
         Ok(moved)
     }
 
-    /// A comparison of two numbers or two pointers (C11 6.5.8, 6.5.9).
+    /// Compares two numbers or two pointers (C11 6.5.8, 6.5.9).
     pub fn compare(
         &mut self,
         setting: &Setting,
@@ -383,7 +383,7 @@ impl Log {
         }
     }
 
-    // Two pointers compared for equality: offsets are compared where they point into one object (C11 6.5.9, paragraph 6).
+    // Two pointers compared for equality: offsets are compared if they point into the same object (C11 6.5.9, paragraph 6).
     fn equality(
         &mut self,
         setting: &Setting,
@@ -411,7 +411,7 @@ impl Log {
         }
     }
 
-    /// How many elements of so many bytes lie between two pointers (C11 6.5.6, paragraph 9).
+    /// Returns the difference of two pointers, in elements of a size (C11 6.5.6, paragraph 9).
     pub fn difference(
         &mut self,
         setting: &Setting,
@@ -434,7 +434,7 @@ impl Log {
         Ok(number)
     }
 
-    /// The member at so many bytes of the object that a pointer points to (C11 6.5.2.3, paragraph 4).
+    /// Returns the member at an offset of the object that a pointer points to (C11 6.5.2.3, paragraph 4).
     pub fn arrow(
         &mut self,
         setting: &Setting,
@@ -464,7 +464,7 @@ impl Log {
         }
     }
 
-    /// The number that an update computes, in the type of the object.
+    /// Returns the result of an update, in the type of the object.
     pub fn compute(
         &mut self,
         setting: &Setting,
@@ -491,7 +491,7 @@ impl Log {
     }
 }
 
-// The fault by which an operator of two integers refuses its right operand, if it does (C11 6.5.5, paragraph 5; 6.5.7,
+// Returns the fault of a binary integer operator with this right operand, if there is one (C11 6.5.5, paragraph 5; 6.5.7,
 // paragraph 3).
 fn refused(model: DataModel, operator: BinOp, ty: IntType, right: &i128) -> Option<Kind>
     ensures { (place : Place) (act : Act State)
@@ -506,7 +506,7 @@ fn refused(model: DataModel, operator: BinOp, ty: IntType, right: &i128) -> Opti
     }
 }
 
-// A division by 0 is refused.
+// Returns the fault of a division by 0.
 fn refused_divisor(divisor: &i128) -> Option<Kind>
     ensures { (place : Place) (act : Act State)
         → operators.divide place divisor.now act ≡ or_fault place result act }
@@ -518,7 +518,7 @@ fn refused_divisor(divisor: &i128) -> Option<Kind>
     }
 }
 
-// A shift by a count below 0, or not below the width, is refused.
+// Returns the fault of a shift by a negative count, or one not less than the width.
 fn refused_count(model: DataModel, ty: IntType, count: &i128) -> Option<Kind>
     ensures { (place : Place) (act : Act State)
         → operators.shift model place ty count.now act ≡ or_fault place result act }
@@ -531,7 +531,7 @@ fn refused_count(model: DataModel, ty: IntType, count: &i128) -> Option<Kind>
     }
 }
 
-// Whether a type holds every number of another.
+// Whether all numbers of a type are in another.
 fn takes_all(model: DataModel, from: &CType, to: IntType) -> bool
     ensures { result ≡ operators.takes_all model (shape_of from.now) to }
 {
@@ -552,7 +552,7 @@ fn both_null(left: &Cell, right: &Cell) -> bool
     matches!((left, right), (Cell::Null, Cell::Null))
 }
 
-// The offsets of two pointers into one object.
+// Returns the offsets of two pointers into the same object.
 fn in_one_object(left: &Cell, right: &Cell) -> Option<(i128, i128)>
     ensures { result ≡ operators.in_one_object (cell_of left.now) (cell_of right.now) }
 {
@@ -568,7 +568,7 @@ fn in_one_object(left: &Cell, right: &Cell) -> Option<(i128, i128)>
     }
 }
 
-// The same, null being an object of its own.
+// The same, with null as an object of its own.
 fn related(left: &Cell, right: &Cell) -> Option<(i128, i128)>
     ensures { result ≡ operators.related (cell_of left.now) (cell_of right.now) }
 {
@@ -578,7 +578,7 @@ fn related(left: &Cell, right: &Cell) -> Option<(i128, i128)>
     }
 }
 
-// What two pointers need one object for (C11 6.5.6, paragraph 9; 6.5.8, paragraph 5).
+// Checks that two pointers point into the same object, as an operation requires (C11 6.5.6, paragraph 9; 6.5.8, paragraph 5).
 fn in_relation(place: Place, offsets: Option<(i128, i128)>) -> Result<(i128, i128), Stop>
     ensures ok { IfOk result (λ both. offsets ≡ Some both) }
     ensures err { IfErr result (λ stop.
@@ -587,14 +587,14 @@ fn in_relation(place: Place, offsets: Option<(i128, i128)>) -> Result<(i128, i12
     offsets.ok_or(fault(Kind::Unrelated, place))
 }
 
-// Whether a comparison asks for an order.
+// Whether a comparison is for order.
 fn asks_order(operator: CmpOp) -> bool
     ensures { result ≡ operators.asks_order operator }
 {
     !matches!(operator, CmpOp::Equal | CmpOp::Differs)
 }
 
-// What an equality gives for what is the same, or isn't.
+// Returns the result of `==` or `!=` for equal, or different, pointers.
 fn equality_of(operator: CmpOp, same: bool) -> bool
     ensures { result ≡ operators.equality_of operator same }
 {

@@ -1,4 +1,4 @@
--- The state of a machine whose memory has changed: for the contracts of what changes memory alone.
+-- The state of a machine whose memory has changed: for the contracts of what changes only memory.
 use Rattle.std.proofs.Common.{◌≡◌, ℕ, ◌+◌, List, [], ◌∷◌, ◌++◌, map, reverse, length, Vec, Global, ap, ◌∙◌}
 use Rattle.cs_meaning.specs.Machine.{Operand, push, with_memory}
 use Rattle.cs_meaning.specs.Memory as meaning

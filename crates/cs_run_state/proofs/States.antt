@@ -1,4 +1,4 @@
--- Lists that are kept with their first element last: for the contracts of `Machine`.
+-- Lists stored in reverse order: for the contracts of `Machine`.
 use Rattle.std.proofs.Common.{◌≡◌, ℕ, zero, suc, ◌+◌, List, [], ◌∷◌, ◌++◌, map, drop, reverse, refl, ap, ◌∙◌, arith}
 use Rattle.std.specs.Prelude.{slice_get}
 use Rattle.std.proofs.lemmas.List.{reverse-append}

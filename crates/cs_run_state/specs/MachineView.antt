@@ -1,5 +1,5 @@
--- The interpreter's state, seen as that of the reference machine. Its lists of things to do, of operands and of frames have their first
--- element last.
+-- The interpreter's state, seen as that of the reference machine. In the interpreter's lists of things to do, of operands and of frames the
+-- first element comes last.
 use Rattle.std.specs.Prelude.{ℕ, List, map, reverse, length}
 use Rattle.cs_types.specs.Shape.{shape_of}
 use Rattle.cs_ast.specs.TypedTree.{Typed, Statement, Block, Empty}
@@ -18,7 +18,7 @@ use Rattle.cs_values.specs.View.{operand_of}
 use Rattle.cs_memory.specs.MemoryView.{memory_of}
 use Rattle.cs_objects.specs.BlockView.{type_of}
 
--- what is done with an expression
+-- a step of an expression
 abbrev pub expression_item : ExprStep → Typed → machine.Item
 expression_item expr_step.Evaluate e = machine.Evaluate e
 expression_item expr_step.EvaluateUnused e = machine.EvaluateUnused e
@@ -26,7 +26,7 @@ expression_item expr_step.Act e = machine.Act e
 expression_item expr_step.Fetch e = machine.Fetch e
 expression_item expr_step.Choose e = machine.Choose e
 
--- what is done with a statement whose first counted point has a number
+-- a step of a statement whose first counted point has a number
 abbrev pub statement_item : StmtStep → Statement → ℕ → machine.Item
 statement_item stmt_step.Execute s counted_point = machine.Execute s counted_point
 statement_item stmt_step.Decide s counted_point = machine.Decide s counted_point
@@ -49,7 +49,7 @@ item_of (item.End place ty) = machine.End place (falls_off (type_of ty))
 item_of (item.Give place) = machine.Give place
 item_of item.Leave = machine.Leave
 
--- what is to be done, first things first
+-- the things to do, first things first
 abbrev pub todo_of : List Item → List machine.Item
 todo_of items = reverse (map item_of items)
 
@@ -63,7 +63,7 @@ frame_of frame = record {
   visits = frame.visits.items;
 }
 
--- the state: frames are seen as their locals, and allocations by what they gave
+-- the state: frames are seen as their locals, and allocations by their results
 unfoldable pub state_of : Machine → machine.State
 state_of m = record {
   frame = frame_of m.frame;

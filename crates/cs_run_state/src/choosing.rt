@@ -1,4 +1,4 @@
-//! What stands between the parts of an expression: the way of a test, and the use of a call's result.
+//! Steps between the parts of an expression: the branch of a test, and the use of a call's result.
 ghost use Rattle.std.specs.Prelude.{◌≡◌, OnOk, IfOk, IfErr};
 ghost use Rattle.cs_ast.specs.TypedView.{typed};
 ghost use Rattle.cs_events.specs.Acts.{Act};
@@ -26,7 +26,7 @@ use cs_values::constants::truth_cell;
 use std::alloc::AllocError;
 
 impl<'a> Machine<'a> {
-    /// Goes the way that the first part of `&&`, `||` or `?:` says (C11 6.5.13 to 6.5.15).
+    /// Takes the branch that the first operand of `&&`, `||` or `?:` selects (C11 6.5.13 to 6.5.15).
     pub fn choose(&mut self, log: &mut Log, setting: &Setting<'a>, e: &'a Expr) -> Result<(), Stop>
         ensures ok { OnOk result
             (LeadsTo setting.now log.old log.new
@@ -65,7 +65,7 @@ impl<'a> Machine<'a> {
         }
     }
 
-    /// The newest value is taken as a test's: the way that it takes shows.
+    /// Pops the newest value as a test's; returns the branch that it takes, which shows.
     pub fn test(&mut self, log: &mut Log, setting: &Setting<'a>, place: Place) -> Result<bool, Stop>
         ensures ok { IfOk result (λ holds.
             (state_of self.new ≡ machine.pop (state_of self.old))
@@ -80,7 +80,7 @@ impl<'a> Machine<'a> {
         Ok(holds)
     }
 
-    // The second part is evaluated and made a truth, or the value is known.
+    // Schedules the second operand, to be evaluated and made a truth value, if it is needed; else pushes the known value.
     fn go_on_to(
         &mut self,
         needed: bool,
@@ -100,7 +100,7 @@ impl<'a> Machine<'a> {
         Ok(())
     }
 
-    /// The right part of `&&` or `||`: whether it holds shows, and is the value.
+    /// Pops the right operand of `&&` or `||`; its truth value shows, and is pushed.
     pub fn judge(&mut self, log: &mut Log, setting: &Setting<'a>, place: Place) -> Result<(), Stop>
         ensures ok { OnOk result
             (LeadsTo setting.now log.old log.new (expressions.judge place (state_of self.old))
@@ -115,7 +115,7 @@ impl<'a> Machine<'a> {
         Ok(())
     }
 
-    /// The result of a call that is used was set (C11 6.9.1, paragraph 12).
+    /// Checks that the result of a call, which is used, was set (C11 6.9.1, paragraph 12).
     pub fn use_result(&self, log: &Log, setting: &Setting<'a>, place: Place) -> Result<(), Stop>
         ensures ok { OnOk result
             (LeadsTo setting.now log.now log.now
@@ -132,7 +132,7 @@ impl<'a> Machine<'a> {
         }
     }
 
-    // The fault by which the newest value refuses a use, if it does.
+    // Returns the fault of a use of the newest value, if it can't be used.
     #[tactic(auto, using(crate::proofs::States::states), unfolding(crate::specs::MachineView::state_of))]
     fn refused_result(&self) -> Option<Kind>
         ensures { (place : Place) (act : Act State)
@@ -146,7 +146,7 @@ impl<'a> Machine<'a> {
     }
 }
 
-// The fault by which a value refuses a use, if it does.
+// Returns the fault of a use of a value, if it can't be used.
 fn refused_operand(operand: &Operand) -> Option<Kind>
     ensures { (place : Place) (act : Act State)
         → result_act place (operand_of operand.now) act ≡ or_fault place result act }

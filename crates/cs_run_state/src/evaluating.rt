@@ -1,4 +1,4 @@
-//! The parts of an expression, and what is done with them, before what is to be done then (C11 6.5).
+//! Schedules the parts of an expression, and its operation on them, before the other things to do (C11 6.5).
 ghost use Rattle.std.specs.Prelude.{◌≡◌, ◌∷◌, List, OnOk, if◌then◌else◌};
 ghost use Rattle.cs_types.specs.Shape.{shape_of};
 ghost use Rattle.cs_ast.specs.TypedView.{typed, typed_list};
@@ -14,7 +14,7 @@ use cs_types::CType;
 use std::alloc::AllocError;
 
 impl<'a> Machine<'a> {
-    /// Puts a step of an expression before what is to be done.
+    /// Puts a step of an expression before the other things to do.
     pub fn put_expr(&mut self, step: ExprStep, e: &'a Expr) -> Result<(), AllocError>
         ensures { OnOk result (state_of self.new
             ≡ machine.to_do (expression_item step (typed e.now)
@@ -24,8 +24,8 @@ impl<'a> Machine<'a> {
         Ok(())
     }
 
-    /// Puts the parts of an expression and what it does with them before what is to be done, and after them that the result of a
-    /// call is used.
+    /// Puts the parts of an expression and its operation on them before the other things to do, followed by the check of a result if it is a
+    /// call.
     pub fn evaluate(&mut self, e: &'a Expr) -> Result<(), AllocError>
         ensures { OnOk result (state_of self.new
             ≡ machine.to_do (expressions.evaluates (typed e.now)
@@ -38,7 +38,7 @@ impl<'a> Machine<'a> {
         Ok(())
     }
 
-    /// Puts the parts of an expression and what it does with them before what is to be done.
+    /// Puts the parts of an expression and its operation on them before the other things to do.
     pub fn evaluate_parts(&mut self, e: &'a Expr) -> Result<(), AllocError>
         ensures { OnOk result (state_of self.new
             ≡ machine.to_do (expressions.evaluates (typed e.now) (state_of self.old).frame.todo)
@@ -79,7 +79,7 @@ impl<'a> Machine<'a> {
         }
     }
 
-    // One part, and then a step of the expression.
+    // One operand, and then a step of the expression.
     fn evaluate_one(
         &mut self,
         e: &'a Expr,
@@ -96,7 +96,7 @@ impl<'a> Machine<'a> {
         Ok(())
     }
 
-    // Two parts, from left to right.
+    // Two operands, from left to right.
     fn evaluate_two(
         &mut self,
         e: &'a Expr,
@@ -114,7 +114,7 @@ impl<'a> Machine<'a> {
         Ok(())
     }
 
-    // A pointer and an amount, in the order in which they stand in the file.
+    // A pointer and an amount, in file order.
     fn evaluate_both(
         &mut self,
         e: &'a Expr,
@@ -133,7 +133,7 @@ impl<'a> Machine<'a> {
         }
     }
 
-    // A conversion's operand: to void, its value isn't used.
+    // The operand of a conversion; in one to `void`, its value isn't used.
     fn evaluate_operand(&mut self, e: &'a Expr, value: &'a Expr) -> Result<(), AllocError>
         ensures { OnOk result (state_of self.new
             ≡ machine.to_do (expressions.evaluates_operand (shape_of e.now.ty) (typed value.now)
@@ -163,7 +163,7 @@ impl<'a> Machine<'a> {
         Ok(())
     }
 
-    // The place of an update, what it holds, and the right operand.
+    // The lvalue of an update, its old value, and the right operand.
     fn evaluate_update(
         &mut self,
         e: &'a Expr,

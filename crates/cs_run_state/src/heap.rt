@@ -1,4 +1,4 @@
-//! What allocations and releases do to a state (C11 7.22.3).
+//! Effects of allocations and releases on a state (C11 7.22.3).
 ghost use Rattle.std.specs.Prelude.{◌≡◌, ◌+◌, pos, OnOk, IfOk, option_map, option_copied};
 ghost use Rattle.cs_events.specs.Acts.{Goes};
 ghost use Rattle.cs_events.specs.Objects.{Object as PlainObject, HeapBlock, NullCell, PointerCell};
@@ -19,7 +19,7 @@ use cs_values::{Cell, Object};
 use std::alloc::AllocError;
 
 impl<'a> Machine<'a> {
-    /// The number of the next allocation.
+    /// Returns the number of the next allocation.
     #[tactic(auto, unfolding(crate::specs::MachineView::state_of))]
     pub fn next_allocation(&self) -> Result<u64, AllocError>
         ensures { IfOk result (λ number. number ≡ (state_of self.now).allocations + 1) }
@@ -29,7 +29,7 @@ impl<'a> Machine<'a> {
             .ok_or(AllocError)
     }
 
-    /// The next allocation gives a block: a pointer to its beginning is left.
+    /// Adds the block of the next allocation, and pushes a pointer to its beginning.
     #[tactic(auto, unfolding(crate::specs::MachineView::state_of))]
     pub fn add_block(&mut self, allocation: u64, block: Block<'a>) -> Result<(), AllocError>
         requires { allocation ≡ (state_of self.old).allocations + 1 }
@@ -47,7 +47,7 @@ impl<'a> Machine<'a> {
         Ok(())
     }
 
-    /// The next allocation gives no block: a null pointer is left.
+    /// Counts the next allocation, which returns no block, and pushes a null pointer.
     #[tactic(auto, unfolding(crate::specs::MachineView::state_of))]
     pub fn add_none(&mut self) -> Result<(), AllocError>
         ensures { OnOk result (state_of self.new
@@ -70,8 +70,8 @@ impl<'a> Machine<'a> {
         Ok(())
     }
 
-    /// The fault by which `free` refuses a pointer, if it does: only start and heap blocks that stand can be freed, through a pointer
-    /// to their beginning alone (C11 7.22.3.3).
+    /// Returns the fault of a `free` of a pointer, if there is one: only live start and heap blocks can be freed, through a pointer
+    /// to their beginning (C11 7.22.3.3).
     pub fn refused_release(&self, object: &Object, offset: i128) -> Option<Kind>
         ensures { (place : Place)
             → calls.release_object place (object_of object.now) offset (state_of self.now)
@@ -91,7 +91,7 @@ impl<'a> Machine<'a> {
     }
 }
 
-// The same by what is known of the block.
+// The same, from the block.
 fn refused_standing(block: Option<&Block>, offset: i128) -> Option<Kind>
     ensures { (place : Place) (object : PlainObject) (m : State)
         → calls.release_known place (option_map block_of (option_copied block.entry)) object

@@ -1,4 +1,4 @@
-//! The state of a run: what expressions do with their parts, and what is stored, allocated, released and counted.
+//! The state of a run: operations of expressions on their operands, stores to locals, allocations and releases, counts of visits.
 #![tactic(auto, using(cs_run_log::proofs::Performing::silent))]
 
 mod choosing;

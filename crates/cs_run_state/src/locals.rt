@@ -1,4 +1,4 @@
-//! Locals of the frame that runs: what is stored in them, and the pieces of initializers (C11 6.7.9).
+//! Locals of the current frame: stores to them, and the pieces of initializers (C11 6.7.9).
 ghost use Rattle.std.specs.Prelude.{◌≡◌, OnOk, Some, map};
 ghost use Rattle.cs_types.specs.Shape.{shape_of};
 ghost use Rattle.cs_ast.specs.TypedProgram.{HasLayouts, typed_program};
@@ -30,7 +30,7 @@ use cs_values::Object;
 use std::alloc::AllocError;
 
 impl<'a> Machine<'a> {
-    /// The newest value of a type is taken, and written in a local at an offset.
+    /// Pops the newest value, of a type, and writes it in a local at an offset.
     #[tactic(auto, using(crate::proofs::States::states), unfolding(crate::specs::MachineView::state_of))]
     pub fn store_newest(
         &mut self,
@@ -54,7 +54,7 @@ impl<'a> Machine<'a> {
         Ok(())
     }
 
-    /// Bytes are stored in a local.
+    /// Stores bytes in a local.
     #[tactic(auto, using(crate::proofs::States::states), unfolding(crate::specs::MachineView::state_of))]
     pub fn spell_local(
         &mut self,
@@ -73,7 +73,7 @@ impl<'a> Machine<'a> {
         Ok(())
     }
 
-    /// The pieces of an initializer are stored, one after another, in an object that becomes zero before.
+    /// Zeroes an object, and schedules the stores of the pieces of its initializer, one after another.
     pub fn initialize_local(
         &mut self,
         program: &'a Program,
@@ -97,7 +97,7 @@ impl<'a> Machine<'a> {
         Ok(())
     }
 
-    // Pieces are to be stored, one after another.
+    // Schedules the stores of pieces, one after another.
     fn put_pieces(
         &mut self,
         place: Place,
@@ -116,7 +116,7 @@ impl<'a> Machine<'a> {
         Ok(())
     }
 
-    // A piece of an initializer is to be stored.
+    // Schedules the store of a piece of an initializer.
     fn put_piece(
         &mut self,
         place: Place,
@@ -136,7 +136,7 @@ impl<'a> Machine<'a> {
         }
     }
 
-    /// A local of the frame that runs holds what a fill gives.
+    /// Gives a local of the current frame the contents of a fill.
     pub fn refill_local(&mut self, declaration: u32, fill: Fill<'a>) -> Result<(), AllocError>
         ensures { OnOk result (state_of self.new
             ≡ meaning.refilled (fill_of fill.entry) declaration (state_of self.old)) }
@@ -146,7 +146,7 @@ impl<'a> Machine<'a> {
         Ok(())
     }
 
-    // The type of a local of the function that runs.
+    // Returns the type of a local of the current function.
     #[tactic(auto, using(crate::proofs::States::states), unfolding(crate::specs::MachineView::state_of))]
     fn local_type<'p>(&self, program: &'p Program, declaration: u32) -> BlockType<'p>
         ensures { type_of result ≡ meaning.local_type (typed_program program.now) declaration
@@ -161,7 +161,7 @@ impl<'a> Machine<'a> {
         }
     }
 
-    /// A local of the frame that runs, if it is a scalar.
+    /// Returns the declaration of a local of the current frame, if it is a scalar.
     pub fn scalar_local(&self, program: &Program, declaration: u32) -> Option<u32>
         ensures { result ≡ meaning.if_scalar
             (meaning.local_type (typed_program program.now) declaration (state_of self.now))
@@ -175,7 +175,7 @@ impl<'a> Machine<'a> {
     }
 }
 
-// Whether a type is a scalar's.
+// Whether a type is a scalar.
 fn is_scalar_type(ty: BlockType) -> bool
     ensures { result ≡ types.is_scalar (type_of ty.entry) }
 {

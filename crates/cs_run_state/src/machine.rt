@@ -1,4 +1,4 @@
-//! The state of the interpreter: frames with what is to be done in them, operands, visits, and memory.
+//! The state of the interpreter: frames with their things to do, operands, visits, and memory.
 #![tactic(auto, using(crate::proofs::States::states), unfolding(crate::specs::MachineView::state_of))]
 
 ghost use Rattle.std.specs.Prelude.{◌≡◌, [], ◌∷◌, OnOk, IfOk, IfErr, IfSome, IfNone};
@@ -29,28 +29,28 @@ pub struct Frame<'a> {
     pub function: u32,
     /// The frame's number in the run.
     pub number: u64,
-    /// What is to be done, the first thing last.
+    /// The things to do; the next one is the last.
     pub todo: Vec<Item<'a>>,
-    /// Values and places, the newest last.
+    /// Values and lvalues, the newest last.
     pub stack: Vec<Operand>,
-    /// How often each counted point of the body was reached.
+    /// The number of visits of each counted point of the body.
     pub visits: Vec<u32>,
 }
 
 /// A state of a run.
 #[derive(Drop)]
 pub struct Machine<'a> {
-    /// The frame that runs.
+    /// The current frame.
     pub frame: Frame<'a>,
-    /// The frames that called it, the nearest last.
+    /// The frames on the call stack below it, its caller last.
     pub callers: Vec<Frame<'a>>,
     pub memory: Memory<'a>,
-    /// How many calls of functions without a body there were.
+    /// The number of calls so far of functions without a body.
     pub calls: u64,
 }
 
 impl<'a> Machine<'a> {
-    /// Puts a thing before what is to be done.
+    /// Puts a thing to do before the others.
     pub fn put(&mut self, item: Item<'a>) -> Result<(), AllocError>
         ensures { OnOk result (state_of self.new
             ≡ machine.to_do (item_of item.entry ∷ (state_of self.old).frame.todo)
@@ -60,7 +60,7 @@ impl<'a> Machine<'a> {
         Ok(())
     }
 
-    /// Takes the first thing that is to be done.
+    /// Takes the next thing to do.
     pub fn next(&mut self) -> Option<Item<'a>>
         ensures some { IfSome result (λ item.
             state_of self.old ≡ machine.to_do (item_of item ∷ (state_of self.new).frame.todo)
@@ -74,7 +74,7 @@ impl<'a> Machine<'a> {
         }
     }
 
-    /// Leaves one more operand.
+    /// Pushes an operand.
     pub fn push(&mut self, operand: Operand) -> Result<(), AllocError>
         ensures { OnOk result (state_of self.new
             ≡ machine.push (operand_of operand) (state_of self.old)) }
@@ -83,7 +83,7 @@ impl<'a> Machine<'a> {
         Ok(())
     }
 
-    /// Leaves one more scalar.
+    /// Pushes a scalar.
     pub fn push_cell(&mut self, cell: Cell) -> Result<(), AllocError>
         ensures { OnOk result (state_of self.new
             ≡ machine.push_cell (cell_of cell) (state_of self.old)) }
@@ -92,7 +92,7 @@ impl<'a> Machine<'a> {
         Ok(())
     }
 
-    /// Takes the newest operand.
+    /// Pops the newest operand.
     pub fn pop(&mut self) -> Operand
         ensures operand { operand_of result ≡ machine.operand_at (state_of self.old) 0 }
         ensures state { state_of self.new ≡ machine.pop (state_of self.old) }
@@ -103,7 +103,7 @@ impl<'a> Machine<'a> {
             .unwrap_or(Operand::Scalar(Cell::Unset))
     }
 
-    /// Takes the newest operand as a scalar.
+    /// Pops the newest operand as a scalar.
     pub fn pop_cell(&mut self) -> Cell
         ensures cell { cell_of result ≡ machine.cell_at (state_of self.old) 0 }
         ensures state { state_of self.new ≡ machine.pop (state_of self.old) }
@@ -111,7 +111,7 @@ impl<'a> Machine<'a> {
         self.pop().into_cell()
     }
 
-    /// Takes the two newest operands as scalars, the older one first.
+    /// Pops the two newest operands as scalars, and returns the older one first.
     pub fn pop_two(&mut self) -> (Cell, Cell)
         ensures older { cell_of result.0 ≡ machine.cell_at (state_of self.old) 1 }
         ensures newer { cell_of result.1 ≡ machine.cell_at (state_of self.old) 0 }
@@ -122,7 +122,7 @@ impl<'a> Machine<'a> {
         (older, newer)
     }
 
-    /// Takes the newest operand as a number.
+    /// Pops the newest operand as a number.
     pub fn pop_number(&mut self) -> i128
         ensures number { result ≡ expressions.number_at (state_of self.old) 0 }
         ensures state { state_of self.new ≡ machine.pop (state_of self.old) }
@@ -130,7 +130,7 @@ impl<'a> Machine<'a> {
         self.pop_cell().number()
     }
 
-    /// Takes the two newest operands as numbers, the older one first.
+    /// Pops the two newest operands as numbers, and returns the older one first.
     pub fn pop_numbers(&mut self) -> (i128, i128)
         ensures older { result.0 ≡ expressions.number_at (state_of self.old) 1 }
         ensures newer { result.1 ≡ expressions.number_at (state_of self.old) 0 }
@@ -141,7 +141,7 @@ impl<'a> Machine<'a> {
         (older, newer)
     }
 
-    /// Takes a pointer and an amount, of which one was evaluated after the other.
+    /// Pops a pointer and an amount, which were evaluated in the given order.
     pub fn pop_both(&mut self, order: Order) -> (Cell, i128)
         ensures pointer { cell_of result.0
             ≡ machine.cell_at (state_of self.old) (expressions.pointer_age order) }
@@ -156,7 +156,7 @@ impl<'a> Machine<'a> {
         }
     }
 
-    /// A copy of the newest operand as a scalar.
+    /// Returns a copy of the newest operand as a scalar.
     pub fn top_cell(&self) -> Result<Cell, AllocError>
         ensures { IfOk result (λ cell. cell_of cell ≡ machine.cell_at (state_of self.now) 0) }
     {
@@ -169,7 +169,7 @@ impl<'a> Machine<'a> {
         }
     }
 
-    /// A load, in the frame that runs.
+    /// Loads in the current frame.
     pub fn load(
         &mut self,
         log: &mut Log,
@@ -196,7 +196,7 @@ impl<'a> Machine<'a> {
         Ok(operand)
     }
 
-    /// A store at a place, in the frame that runs.
+    /// Stores at an lvalue in the current frame.
     pub fn store(
         &mut self,
         log: &mut Log,

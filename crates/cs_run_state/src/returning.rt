@@ -1,4 +1,4 @@
-//! Calls that have ended (C11 6.8.6.4).
+//! Returns from calls (C11 6.8.6.4).
 ghost use Rattle.std.specs.Prelude.{◌≡◌, OnOk};
 ghost use Rattle.cs_values.specs.View.{operand_of};
 ghost use Rattle.cs_run_state.specs.MachineView.{frame_of, state_of};
@@ -9,7 +9,7 @@ use cs_values::Operand;
 use std::alloc::AllocError;
 
 impl<'a> Machine<'a> {
-    /// The frame that runs has ended, and its locals are there no more (C11 6.2.4, paragraph 2). It gives a value to its caller, which runs on.
+    /// Ends the current frame, and the lifetime of its locals (C11 6.2.4, paragraph 2). Its caller gets a value, and continues.
     #[tactic(auto, using(crate::proofs::States::states), unfolding(crate::specs::MachineView::state_of))]
     pub fn come_back(&mut self, caller: Frame<'a>, value: Operand) -> Result<(), AllocError>
         ensures { OnOk result (state_of self.new

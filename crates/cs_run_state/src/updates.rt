@@ -24,7 +24,7 @@ use cs_values::objects::{let_go_of_cell, let_go_of_operand};
 use cs_values::{Cell, Operand, stride_of};
 
 impl<'a> Machine<'a> {
-    /// A load from the object whose place is the newest operand.
+    /// Loads from the object whose lvalue is the newest operand.
     pub fn load_from(
         &mut self,
         log: &mut Log,
@@ -42,7 +42,7 @@ impl<'a> Machine<'a> {
         Ok(())
     }
 
-    /// The load of an update of a pointer, whose place stays below the value.
+    /// Loads for an update of a pointer; the lvalue stays on the stack, below the value.
     pub fn fetch_pointer(
         &mut self,
         log: &mut Log,
@@ -59,7 +59,7 @@ impl<'a> Machine<'a> {
         Ok(())
     }
 
-    /// The load of an update of a number, whose place stays below the value and the value in the type of the operator.
+    /// Loads for an update of a number; the lvalue stays on the stack, below the value and the value converted to the operator's type.
     pub fn fetch_number(
         &mut self,
         log: &mut Log,
@@ -81,7 +81,7 @@ impl<'a> Machine<'a> {
         Ok(())
     }
 
-    // A load from the object whose place is the newest operand, which stays.
+    // Loads from the object whose lvalue is the newest operand, which stays on the stack.
     fn load_below(
         &mut self,
         log: &mut Log,
@@ -109,7 +109,7 @@ impl<'a> Machine<'a> {
         Ok(operand)
     }
 
-    /// An assignment, which leaves the stored value.
+    /// Assigns, and pushes the stored value.
     pub fn assign(
         &mut self,
         log: &mut Log,
@@ -137,7 +137,7 @@ impl<'a> Machine<'a> {
         }
     }
 
-    /// An update of a number: the operands are the place, the value before, the same converted, and the right operand.
+    /// Updates a number: the operands are the lvalue, the old value, the same converted, and the right operand.
     pub fn update(
         &mut self,
         log: &mut Log,
@@ -170,7 +170,7 @@ impl<'a> Machine<'a> {
         }
     }
 
-    // What an update computes is stored.
+    // Stores the result of an update.
     fn store_computed(
         &mut self,
         log: &mut Log,
@@ -204,7 +204,7 @@ impl<'a> Machine<'a> {
         Ok(number)
     }
 
-    /// A pointer moves by elements of so many bytes: the operands are the place, the value before, and the amount.
+    /// Updates a pointer by a number of elements of a size in bytes: the operands are the lvalue, the old value, and the amount.
     pub fn move_pointer(
         &mut self,
         log: &mut Log,
@@ -237,7 +237,7 @@ impl<'a> Machine<'a> {
         }
     }
 
-    // A pointer that has moved is stored.
+    // Stores the moved pointer.
     fn store_moved(
         &mut self,
         log: &mut Log,
@@ -274,7 +274,7 @@ impl<'a> Machine<'a> {
         Ok(operand.into_cell())
     }
 
-    // Takes the place of an update of a pointer, the value before, and the amount.
+    // Pops the lvalue of an update of a pointer, the old value, and the amount.
     #[tactic(auto, using(crate::proofs::States::states))]
     fn pop_moved(&mut self) -> (Cell, Operand, i128)
         ensures target { cell_of result.0 ≡ machine.cell_at (state_of self.old) 2 }
@@ -287,7 +287,7 @@ impl<'a> Machine<'a> {
         (target, before, amount)
     }
 
-    // Takes the place of an update of a number, the value before, the same converted, and the right operand.
+    // Pops the lvalue of an update of a number, the old value, the same converted, and the right operand.
     #[tactic(auto, using(crate::proofs::States::states))]
     fn pop_updated(&mut self) -> (Cell, Operand, i128, i128)
         ensures target { cell_of result.0 ≡ machine.cell_at (state_of self.old) 3 }
@@ -301,7 +301,7 @@ impl<'a> Machine<'a> {
         (target, before, left, right)
     }
 
-    // Takes the place of an assignment, or of an update, and the value above it.
+    // Pops the lvalue of an assignment or of an update, and the value above it.
     #[tactic(auto, using(crate::proofs::States::states))]
     fn pop_stored(&mut self) -> (Cell, Operand)
         ensures target { cell_of result.0 ≡ machine.cell_at (state_of self.old) 1 }
@@ -314,7 +314,7 @@ impl<'a> Machine<'a> {
     }
 }
 
-// The value that an update gives (C11 6.5.2.4, 6.5.3.1, 6.5.16).
+// Returns the value of an update: the old one or the new one (C11 6.5.2.4, 6.5.3.1, 6.5.16).
 fn given(gives: Gives, before: Operand, after: Operand) -> Operand
     ensures { operand_of result ≡ expressions.given gives (operand_of before) (operand_of after) }
 {
@@ -324,7 +324,7 @@ fn given(gives: Gives, before: Operand, after: Operand) -> Operand
     }
 }
 
-// The same of a number.
+// The same for a number.
 fn given_number(gives: Gives, before: Operand, after: i128) -> Operand
     ensures { operand_of result ≡ expressions.given gives (operand_of before)
         (machine.Scalar (NumberCell after)) }

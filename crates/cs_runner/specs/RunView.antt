@@ -1,4 +1,4 @@
--- What a run begins with.
+-- The inputs and guesses of a run.
 use Rattle.cs_meaning.specs.ProgramRuns.{ProgramRun}
 use Rattle.cs_objects.specs.declared.settings.Setting.{Setting}
 

@@ -1,4 +1,4 @@
--- A run on its way, seen as the reference machine's: its state, its program and its budgets, and what an act does to it.
+-- A run in progress, seen as the reference machine's: its state, its program and its budgets, and the effect of an act on it.
 use Rattle.std.specs.Prelude.{◌≡◌, Result, ⊤, OnOk, IfErr}
 use Rattle.cs_ast.specs.TypedProgram.{TypedProgram, typed_program}
 use Rattle.cs_events.specs.declared.outcome.RunBudgets.{RunBudgets}
@@ -14,7 +14,7 @@ use Rattle.cs_runner.specs.declared.runner.Runner.{Runner}
 abbrev pub program_of : Runner → TypedProgram
 program_of run = typed_program run.setting.now.program.now
 
--- how far it goes
+-- its budgets
 abbrev pub budgets_of : Runner → RunBudgets
 budgets_of run = run.setting.now.budgets
 
@@ -22,12 +22,12 @@ budgets_of run = run.setting.now.budgets
 abbrev pub state_in : Runner → State
 state_in run = state_of run.machine
 
--- what it goes by is ready
+-- its setting is ready
 abbrev pub IsReady : Runner → Type 0
 IsReady run = settings.IsReady run.setting.now
 
 module _ (old new : Runner) where
-  -- an act leads the run on
+  -- an act leads to the new state
   abbrev pub LeadsOn : Act State → Type 0
   LeadsOn act = pieces.LeadsTo old.setting.now old.log new.log act (state_in new)
 
@@ -35,7 +35,7 @@ module _ (old new : Runner) where
   abbrev pub Ends : Act State → Stop → Type 0
   Ends act stop = pieces.EndsBy old.setting.now old.log new.log act stop
 
-  -- what a call comes to that performs an act: the act leads the run on, by the same program, inputs and budgets, or has ended it
+  -- what a call that performs an act ensures: the act leads to the new state, with the same program, inputs and budgets, or ends the run
   pub record Performs (result : Result ⊤ Stop) (act : Act State) : Type 0 where
     pub ok : OnOk result (LeadsOn act)
     pub err : IfErr result (Ends act)

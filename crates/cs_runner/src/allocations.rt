@@ -22,7 +22,7 @@ use cs_values::{Cell, Object, Operand};
 use std::alloc::AllocError;
 
 impl<'a> Runner<'a> {
-    /// A call of `malloc` or `calloc`, whose arguments are on the stack.
+    /// Calls `malloc` or `calloc`, whose arguments are on the stack.
     pub fn allocate(
         &mut self,
         place: Place,
@@ -45,7 +45,7 @@ impl<'a> Runner<'a> {
         }
     }
 
-    // An allocation of so many bytes (C11 7.22.3.4).
+    // An allocation of a number of bytes (C11 7.22.3.4).
     fn allocate_bytes(
         &mut self,
         place: Place,
@@ -71,7 +71,7 @@ impl<'a> Runner<'a> {
         Ok(())
     }
 
-    // An allocation of so many elements of so many bytes: null where these are too many (C11 7.22.3.2).
+    // An allocation of `count` elements of a size: null if the product is too large (C11 7.22.3.2).
     fn allocate_zeros(
         &mut self,
         place: Place,
@@ -96,7 +96,7 @@ impl<'a> Runner<'a> {
         }
     }
 
-    /// A call of `free`.
+    /// Calls `free`.
     pub fn release(&mut self, place: Place, pointer: Cell) -> Result<(), Stop>
         ensures { Performs self.old self.new result
             (calls.release place (cell_of pointer) (state_in self.old)) }
@@ -122,7 +122,7 @@ impl<'a> Runner<'a> {
         }
     }
 
-    // Only start and heap blocks that stand can be freed, through a pointer to their beginning alone (C11 7.22.3.3).
+    // Frees an object: only live start and heap blocks can be freed, through a pointer to their beginning (C11 7.22.3.3).
     fn release_object(&mut self, place: Place, object: &Object, offset: i128) -> Result<(), Stop>
         ensures { Performs self.old self.new result
             (calls.release_object place (object_of object.now) offset (state_in self.old)) }
@@ -136,7 +136,7 @@ impl<'a> Runner<'a> {
     }
 }
 
-// A number of bytes.
+// Returns a number as a number of bytes; 0 if it is negative.
 fn bytes_of_number(number: i128) -> Result<u64, AllocError>
     ensures { IfOk result (λ bytes. bytes ≡ calls.bytes_of_number number) }
 {

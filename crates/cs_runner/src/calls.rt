@@ -23,7 +23,7 @@ use cs_values::Operand;
 use std::alloc::AllocError;
 
 impl<'a> Runner<'a> {
-    /// A call with so many arguments, which are on the stack.
+    /// Calls a function with `count` arguments, which are on the stack.
     pub fn call(&mut self, place: Place, function: u32, count: usize) -> Result<(), Stop>
         requires { IsReady self.old }
         ensures { Performs self.old self.new result
@@ -43,7 +43,7 @@ impl<'a> Runner<'a> {
         }
     }
 
-    // A call of a function with a body: it shows, unless there are as many frames as there may be.
+    // Calls a function with a body: the call shows, unless the budget of depth is used up.
     fn enter(
         &mut self,
         place: Place,
@@ -68,7 +68,7 @@ impl<'a> Runner<'a> {
         Ok(())
     }
 
-    // A call of a function without a body: it shows, its number is drawn and its result looked up, and it writes.
+    // Calls a function without a body: the call shows, gets a number, its result is looked up, and it writes through its arguments.
     fn call_outside(
         &mut self,
         place: Place,
@@ -100,7 +100,7 @@ impl<'a> Runner<'a> {
         Ok(())
     }
 
-    /// The frame that runs ends, and gives a value to the one that called it; the run is done where none did.
+    /// Ends the current frame, and returns a value to its caller; if there is none, the run is done.
     pub fn leave(&mut self, value: Operand) -> Result<(), Stop>
         ensures { Performs self.old self.new result
             (calls.leave (operand_of value) (state_in self.old)) }
@@ -115,7 +115,7 @@ impl<'a> Runner<'a> {
     }
 }
 
-// Goes into a new frame, which has these locals.
+// Continues in a new frame with these locals.
 #[tactic(auto, using(cs_run_state::proofs::States::states), unfolding(cs_run_state::specs::MachineView::state_of))]
 fn go_inside<'a>(
     state: &mut Machine<'a>,
@@ -131,7 +131,7 @@ fn go_inside<'a>(
     Ok(())
 }
 
-// How many frames called the one that runs.
+// Returns the number of frames below the current one on the call stack.
 #[tactic(auto, unfolding(cs_run_state::specs::MachineView::state_of))]
 fn callers_of(state: &Machine) -> u64
     ensures { result ≡ length (state_of state.now).callers }
@@ -139,7 +139,7 @@ fn callers_of(state: &Machine) -> u64
     state.callers.len() as u64
 }
 
-// How many frames there were.
+// Returns the number of frames so far.
 #[tactic(auto, unfolding(cs_run_state::specs::MachineView::state_of))]
 fn frames_of(state: &Machine) -> u64
     ensures { result ≡ (state_of state.now).frames }
@@ -147,7 +147,7 @@ fn frames_of(state: &Machine) -> u64
     state.memory.frames.len() as u64
 }
 
-// Takes the nearest of the frames that called the one that runs.
+// Pops the caller of the current frame.
 #[tactic(auto, using(cs_run_state::proofs::States::states), unfolding(cs_run_state::specs::MachineView::state_of))]
 fn pop_caller<'a>(state: &mut Machine<'a>) -> Option<Frame<'a>>
     ensures some { IfSome result (λ caller.

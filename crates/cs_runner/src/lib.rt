@@ -1,4 +1,4 @@
-//! A run of the reference interpreter on its way, and what all runs do alike, by the syntax or by code: calls, allocations, counted points.
+//! A run of the reference interpreter in progress, and what runs by syntax and runs by code share: calls, allocations, counted points.
 #![tactic(auto, using(cs_run_log::proofs::Performing::silent))]
 
 mod allocations;

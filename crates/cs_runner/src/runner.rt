@@ -1,10 +1,10 @@
-//! A run on its way.
+//! A run in progress.
 
 use cs_objects::Setting;
 use cs_run_log::Log;
 use cs_run_state::machine::Machine;
 
-/// A run on its way: its state, what it has shown, and what it goes by.
+/// A run in progress: its state, its log, and its setting.
 #[derive(Drop)]
 pub struct Runner<'a> {
     pub machine: Machine<'a>,

@@ -1,4 +1,4 @@
-//! Counted points that are reached.
+//! Visits of counted points, within the budget.
 ghost use Rattle.cs_meaning.specs.CountedPoints as meaning;
 ghost use Rattle.cs_runner.specs.RunnerView.{budgets_of, state_in, Performs};
 
@@ -8,7 +8,7 @@ use cs_events::{Budget, Outcome, PointKind};
 use cs_run_log::{Stop, Touch};
 
 impl<'a> Runner<'a> {
-    /// A counted point is reached once more, unless the budget of visits is used up; one that has no count is over.
+    /// Reaches a counted point, unless the budget of visits is used up; one without a count exceeds it.
     pub fn reach_counted_point(
         &mut self,
         place: Place,

@@ -1,4 +1,4 @@
--- The sizes of types in a table that is laid out: for the contracts of `size_of` and `is_small`.
+-- The sizes of types in a laid-out table: for the contracts of `size_of` and `is_small`.
 use Rattle.std.proofs.Common.{◌≡◌, arith, ℕ, zero, suc, ◌*◌, ◌^◌, ◌≤◌, List, Option, Some, None, refl, sym, ap, ◌∙◌, subst}
 use Rattle.std.specs.Prelude.{slice_get, IfSome, nat_lt, if◌then◌else◌}
 use Rattle.std.proofs.lemmas.Bool.Decides.{nat_tests}

@@ -1,4 +1,4 @@
--- Results of operations with what they show.
+-- Results of operations with the labels of their wrap quotients.
 use Rattle.std.specs.Prelude.{◌≡◌, ℤ}
 use Rattle.cs_types.specs.declared.data_model.DataModel.{DataModel}
 use Rattle.cs_types.specs.declared.int_type.IntType.{IntType}
@@ -12,7 +12,7 @@ pub record IsConverted (model : DataModel) (ty : IntType) (exact : ℤ) (own : C
   pub number : own.number ≡ wrapped model ty exact
   pub wrap : own.wrap ≡ wrap_of (wrap_quotient model ty exact)
 
--- the result that an operation has of its own
+-- the own result of an operation
 pub record IsOwn (model : DataModel) (operation : Operation) (own : Computed) : Type 0 where
   pub number : own.number ≡ own_result model operation
   pub wrap : own.wrap ≡ wrap_of (own_quotient model operation)

@@ -17,14 +17,14 @@ object_of (object.Literal literal) = objects.LiteralObject literal
 object_of (object.Local frame declaration) = objects.LocalObject frame declaration
 object_of (object.Heap allocation) = objects.HeapBlock allocation
 
--- what a scalar holds
+-- the contents of a scalar
 abbrev pub cell_of : Cell → objects.Cell
 cell_of (cell.Number n) = objects.NumberCell n
 cell_of cell.Null = objects.NullCell
 cell_of (cell.Pointer object offset) = objects.PointerCell (object_of object) offset
 cell_of cell.Unset = objects.UnsetCell
 
--- what an evaluated expression leaves
+-- the value of an expression
 abbrev pub operand_of : Operand → machine.Operand
 operand_of (operand.Scalar cell) = machine.Scalar (cell_of cell)
 operand_of (operand.Whole cells) = machine.Whole (map cell_of cells.items)

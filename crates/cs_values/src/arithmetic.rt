@@ -1,4 +1,4 @@
-//! What operations have as their own results, and how these lie to their types.
+//! The own results of operations, and their wrap quotients.
 ghost use Rattle.std.specs.Prelude.{◌≡◌, ◌+ℤ◌, ◌*ℤ◌, ℤ, pos, int_le, IsTrue, IfSome, IfOk};
 ghost use Rattle.cs_types.specs.IntType.{IsIntegerOfC, bytes_of, modulus_of};
 ghost use Rattle.cs_types.specs.DataModel.{product_bound_of};
@@ -11,14 +11,14 @@ use cs_events::{Operation, Wrap, lies_in, offsets};
 use cs_types::{DataModel, IntType, multiply, product_bound, quotient, wrap};
 use std::alloc::AllocError;
 
-/// The result of an operation, and how its exact result lies to its type.
+/// The result of an operation, and the label of its wrap quotient.
 #[derive(Clone, Copy)]
 pub struct Computed {
     pub number: i128,
     pub wrap: Wrap,
 }
 
-/// The result that an operation has of its own. None where a number is none of C's, so that 128 bits may not do.
+/// Returns the own result of an operation; `None` if a number isn't one of C's, so that 128 bits may not suffice.
 pub fn compute(model: DataModel, operation: Operation) -> Option<Computed>
     ensures { IfSome result (IsOwn model operation) }
 {
@@ -37,14 +37,14 @@ pub fn compute(model: DataModel, operation: Operation) -> Option<Computed>
     }
 }
 
-/// The same, where want of a number that 128 bits hold is want of memory.
+/// The same, where a number that 128 bits can't hold counts as out of memory.
 pub fn own_result(model: DataModel, operation: Operation) -> Result<Computed, AllocError>
     ensures { IfOk result (IsOwn model operation) }
 {
     compute(model, operation).ok_or(AllocError)
 }
 
-// A truth, which lies in its type.
+// Returns a truth value as a number, which is in its type.
 fn truth(holds: bool) -> Computed
     ensures number { result.number ≡ operations.truth_number holds }
     ensures wrap { result.wrap ≡ Wrap.Same }
@@ -52,7 +52,7 @@ fn truth(holds: bool) -> Computed
     plain(i128::from(holds))
 }
 
-// A result that lies in its type.
+// Returns a result that is in its type.
 fn plain(number: i128) -> Computed
     ensures number { result.number ≡ number }
     ensures wrap { result.wrap ≡ Wrap.Same }
@@ -63,7 +63,7 @@ fn plain(number: i128) -> Computed
     }
 }
 
-// An operator of two integers.
+// Computes a binary integer operator.
 fn binary(
     model: DataModel,
     operator: BinOp,
@@ -87,7 +87,7 @@ fn binary(
     }
 }
 
-// An operator of one integer.
+// Computes a unary integer operator.
 fn unary(model: DataModel, operator: UnOp, ty: IntType, operand: i128) -> Option<Computed>
     ensures { IfSome result (IsConverted model ty (operations.exact_of_one operator operand)) }
 {
@@ -97,7 +97,7 @@ fn unary(model: DataModel, operator: UnOp, ty: IntType, operand: i128) -> Option
     }
 }
 
-// The two to the power of a number below 64.
+// Returns two to the power of a number below 64.
 fn power(exponent: i128) -> Option<i128>
     ensures { IfSome result (λ two_to. two_to ≡ pos (operations.power exponent)) }
 {
@@ -108,7 +108,7 @@ fn power(exponent: i128) -> Option<i128>
     }
 }
 
-// A number converted to a type.
+// Converts a number to a type.
 fn converted(model: DataModel, ty: IntType, number: i128) -> Option<Computed>
     ensures { IfSome result (IsConverted model ty number) }
 {
@@ -122,7 +122,7 @@ fn converted(model: DataModel, ty: IntType, number: i128) -> Option<Computed>
     }
 }
 
-// What a wrap quotient shows.
+// Returns the label of a wrap quotient.
 fn wrap_of(quotient: i128) -> Wrap
     ensures { result ≡ operations.wrap_of quotient }
 {
@@ -134,7 +134,7 @@ fn wrap_of(quotient: i128) -> Wrap
     }
 }
 
-// A product converted to a type.
+// Returns a product converted to a type.
 fn product(model: DataModel, ty: IntType, left: i128, right: i128) -> Option<Computed>
     ensures { IfSome result (IsConverted model ty (left *ℤ right)) }
 {
@@ -148,14 +148,14 @@ fn product(model: DataModel, ty: IntType, left: i128, right: i128) -> Option<Com
     })
 }
 
-// Whether some integer type of C holds the number.
+// Whether a number is in some integer type of C.
 fn is_of_c(number: i128) -> bool
     ensures { IsTrue result → IsIntegerOfC number }
 {
     i128::from(i64::MIN) <= number && number <= i128::from(u64::MAX)
 }
 
-// What the wrap quotient of a product shows.
+// Returns the label of the wrap quotient of a product.
 fn near_wrap(quotient: Option<i128>) -> Wrap
     ensures { (exact : ℤ) → quotient ≡ near_quotient exact
         → result ≡ operations.wrap_of exact }
@@ -166,21 +166,21 @@ fn near_wrap(quotient: Option<i128>) -> Wrap
     }
 }
 
-// The number of a type that some bits write.
+// Returns the number of a type with some bits.
 fn bitwise(model: DataModel, ty: IntType, bits: u64) -> Option<Computed>
     ensures { IfSome result (IsConverted model ty (wrapped model ty (pos bits))) }
 {
     converted(model, ty, wrap(model, ty, i128::from(bits)))
 }
 
-// The bits of a number in a type, as the number that they write without a sign.
+// Returns the bits of a number in a type, read as an unsigned number.
 fn bits(model: DataModel, ty: IntType, number: i128) -> u64
     ensures { result ≡ operations.bits_of model ty number }
 {
     number.rem_euclid(modulus(model, ty)) as u64
 }
 
-// How many numbers a type has.
+// Returns how many numbers a type has.
 fn modulus(model: DataModel, ty: IntType) -> i128
     ensures { result ≡ pos (modulus_of model ty) }
 {
@@ -192,7 +192,7 @@ fn modulus(model: DataModel, ty: IntType) -> i128
     }
 }
 
-/// The bytes of a number of a type.
+/// Returns the size in bytes of a type.
 pub fn bytes(model: DataModel, ty: IntType) -> u32
     ensures { result ≡ bytes_of model ty }
 {
@@ -206,7 +206,7 @@ pub fn bytes(model: DataModel, ty: IntType) -> u32
     }
 }
 
-// Whether two numbers compare so.
+// Whether a comparison of two numbers holds.
 fn compares(operator: CmpOp, left: i128, right: i128) -> bool
     ensures { result ≡ operations.compares operator left right }
 {
@@ -220,7 +220,7 @@ fn compares(operator: CmpOp, left: i128, right: i128) -> bool
     }
 }
 
-// Whether the sum of two parts isn't below 0.
+// Whether the sum of two parts is at least 0.
 fn order(first: i128, second: i128) -> Option<bool>
     ensures { IfSome result (λ holds. holds ≡ int_le (pos 0) (first +ℤ second)) }
 {
@@ -228,8 +228,8 @@ fn order(first: i128, second: i128) -> Option<bool>
     Some(0 <= sum)
 }
 
-// Whether so many elements of so many bytes are at most what one allocation may ask for. A product that 128 bits don't hold is past
-// that, unless it is below 0.
+// Whether `count` elements of a size are at most the largest size of an allocation. A product that 128 bits don't hold is greater,
+// unless it is negative.
 fn product_fits(model: DataModel, count: i128, size: i128) -> bool
     ensures { result ≡ int_le (count *ℤ size) (pos (product_bound_of model)) }
 {
@@ -239,7 +239,7 @@ fn product_fits(model: DataModel, count: i128, size: i128) -> bool
     }
 }
 
-// The offset of a pointer that is moved: 0 in place of one past the bounds.
+// Returns the offset of a moved pointer; 0 if it is past the bounds.
 fn moved(model: DataModel, offset: i128, amount: i128, size: u64) -> Option<i128>
     ensures { IfSome result (λ n.
         n ≡ operations.within_bound model (offset +ℤ amount *ℤ pos size)) }
@@ -249,7 +249,7 @@ fn moved(model: DataModel, offset: i128, amount: i128, size: u64) -> Option<i128
     Some(within_bound(model, moved))
 }
 
-// A number within the bounds of offsets, or 0 in place of any other.
+// Returns a number if it is within the bounds of offsets, else 0.
 fn within_bound(model: DataModel, moved: i128) -> i128
     ensures { result ≡ operations.within_bound model moved }
 {
@@ -267,7 +267,7 @@ pub fn is_true(number: i128) -> bool
     number != 0
 }
 
-// How many elements lie between two offsets, none where elements have no bytes.
+// Returns the number of elements between two offsets; 0 if elements have size 0.
 fn elements_between(left: i128, right: i128, size: u64) -> Option<i128>
     ensures { IfSome result (λ n. n ≡ operations.elements_between left right size) }
 {

@@ -1,4 +1,4 @@
-//! What constant expressions give (C11 6.6).
+//! Values of constant expressions (C11 6.6).
 ghost use Rattle.std.specs.Prelude.{◌≡◌, ◌+ℤ◌, ◌*ℤ◌, pos, IfOk};
 ghost use Rattle.cs_types.specs.Shape.{shape_of, integer};
 ghost use Rattle.cs_ast.specs.TypedProgram.{HasLayouts, typed_program};
@@ -20,7 +20,7 @@ use cs_events::Operation;
 use cs_types::{CType, DataModel, IntType, offset_bound};
 use std::alloc::AllocError;
 
-/// The value of a constant expression: each operation has its own result.
+/// Returns the value of a constant expression: each operation yields its own result.
 #[cycle(constant)]
 pub fn constant(program: &Program, e: &Expr) -> Result<Cell, AllocError>
     requires { HasLayouts program.now }
@@ -99,7 +99,7 @@ pub fn constant(program: &Program, e: &Expr) -> Result<Cell, AllocError>
     }
 }
 
-// The number of a constant expression; a pointer counts as 0.
+// Returns the number of a constant expression; a pointer counts as 0.
 #[cycle(constant)]
 fn constant_number(program: &Program, e: &Expr) -> Result<i128, AllocError>
     requires { HasLayouts program.now }
@@ -111,7 +111,7 @@ fn constant_number(program: &Program, e: &Expr) -> Result<i128, AllocError>
     Ok(cell.number())
 }
 
-// Whether a constant expression is other than 0 and null.
+// Whether a constant expression is neither 0 nor null.
 #[cycle(constant)]
 fn constant_truth(program: &Program, e: &Expr) -> Result<bool, AllocError>
     requires { HasLayouts program.now }
@@ -122,14 +122,14 @@ fn constant_truth(program: &Program, e: &Expr) -> Result<bool, AllocError>
     Ok(cell.is_set())
 }
 
-/// An operator of one integer.
+/// Returns the operation of a unary integer operator.
 pub fn unary_operation(operator: UnOp, ty: IntType, operand: &i128) -> Operation
     ensures { result ≡ Operation.Unary operator ty operand.now }
 {
     Operation::Unary(operator, ty, *operand)
 }
 
-/// The integer type that a type is.
+/// Returns a type as an integer type.
 pub fn integer_of(ty: &CType) -> IntType
     ensures { result ≡ types.integer_of (shape_of ty.now) }
 {
@@ -139,7 +139,7 @@ pub fn integer_of(ty: &CType) -> IntType
     }
 }
 
-/// The bytes of what a pointer of a type points to (C11 6.2.5, paragraph 20).
+/// Returns the size of what a pointer of a type points to (C11 6.2.5, paragraph 20).
 pub fn target_size(program: &Program, ty: &CType) -> Result<u64, AllocError>
     requires { HasLayouts program.now }
     ensures { IfOk result (λ bytes.
@@ -151,14 +151,14 @@ pub fn target_size(program: &Program, ty: &CType) -> Result<u64, AllocError>
     }
 }
 
-/// The cell of a truth.
+/// Returns the cell of a truth value.
 pub fn truth_cell(holds: bool) -> Cell
     ensures { cell_of result ≡ initials.truth_cell holds }
 {
     Cell::Number(i128::from(holds))
 }
 
-// The number of an operation's own result.
+// Returns the own result of an operation.
 fn own_number(model: DataModel, operation: Operation) -> Result<Cell, AllocError>
     ensures { IfOk result (λ cell.
         cell_of cell ≡ NumberCell (operations.own_result model operation)) }
@@ -167,7 +167,7 @@ fn own_number(model: DataModel, operation: Operation) -> Result<Cell, AllocError
     Ok(Cell::Number(own.number))
 }
 
-// A pointer moved as far as a stride.
+// Moves a pointer by a stride.
 fn moved(model: DataModel, pointer: Cell, stride: Stride) -> Result<Cell, AllocError>
     ensures { IfOk result (λ cell.
         cell_of cell ≡ initials.moved model (cell_of pointer) stride.amount stride.size) }
@@ -188,7 +188,7 @@ fn moved(model: DataModel, pointer: Cell, stride: Stride) -> Result<Cell, AllocE
     }
 }
 
-// The offset of a pointer that is moved: past a bound, the bound.
+// Returns the offset of a moved pointer; past a bound, the bound.
 fn moved_offset(model: DataModel, offset: &i128, stride: Stride) -> Result<i128, AllocError>
     ensures { IfOk result (λ moved.
         moved ≡ initials.clamped model (offset.now +ℤ stride.amount *ℤ pos stride.size)) }
@@ -201,7 +201,7 @@ fn moved_offset(model: DataModel, offset: &i128, stride: Stride) -> Result<i128,
     Ok(clamped(model, moved))
 }
 
-// An offset, or the nearer of the two bounds of offsets.
+// Returns an offset, or the nearer bound of offsets if it is outside.
 fn clamped(model: DataModel, offset: i128) -> i128
     ensures { result ≡ initials.clamped model offset }
 {
@@ -215,7 +215,7 @@ fn clamped(model: DataModel, offset: i128) -> i128
     }
 }
 
-// A cell converted to a type.
+// Converts a cell to a type.
 fn converted(model: DataModel, ty: &CType, cell: Cell) -> Result<Cell, AllocError>
     ensures { IfOk result (λ made.
         cell_of made ≡ initials.converted model (shape_of ty.now) (cell_of cell)) }
@@ -229,7 +229,7 @@ fn converted(model: DataModel, ty: &CType, cell: Cell) -> Result<Cell, AllocErro
     }
 }
 
-// A cell converted to an integer type.
+// Converts a cell to an integer type.
 fn converted_to(model: DataModel, ty: IntType, cell: Cell) -> Result<Cell, AllocError>
     ensures { IfOk result (λ made.
         cell_of made ≡ initials.converted model (integer ty) (cell_of cell)) }

@@ -1,4 +1,4 @@
-//! What scalars and expressions hold in a run, and how it is computed.
+//! The values of scalars and expressions in a run, and how they are computed.
 #![tactic(auto, using(crate::proofs::Casts::casts))]
 
 pub mod arithmetic;

@@ -1,4 +1,4 @@
-//! Objects, what their scalars hold, and what evaluated expressions leave.
+//! Objects, the contents of their scalars, and the values of expressions.
 ghost use Rattle.std.specs.Prelude.{◌≡◌, IfOk, map};
 ghost use Rattle.cs_events.specs.Objects.{same_object};
 ghost use Rattle.cs_meaning.specs.Initials.{number_in, is_set, further};
@@ -15,30 +15,30 @@ use std::cmp::Ordering;
 /// An object of a run.
 #[derive(Drop)]
 pub enum Object {
-    /// What an unknown pointer points to, by the pointer's path.
+    /// The start block of an unknown pointer, by the pointer's path.
     Start(Path),
     /// A file-scope object, by its number in the program.
     Global(u32),
     /// A string literal, by its number in the program.
     Literal(u32),
-    /// A declaration in the frame with a number.
+    /// A local, by the frame's number and the declaration's.
     Local(u64, u32),
     /// The block of an allocation, by the allocation's number in the run from 1.
     Heap(u64),
 }
 
-/// What a scalar holds.
+/// The contents of a scalar.
 #[derive(Drop)]
 pub enum Cell {
     Number(i128),
     Null,
-    /// An object at an offset in bytes.
+    /// A pointer to an object at an offset in bytes.
     Pointer(Object, i128),
-    /// Nothing that was ever set.
+    /// Unset.
     Unset,
 }
 
-/// What an evaluated expression leaves. A place is the pointer to it.
+/// The value of an expression. An lvalue is represented by a pointer to it.
 #[derive(Drop)]
 pub enum Operand {
     Scalar(Cell),
@@ -48,7 +48,7 @@ pub enum Operand {
 }
 
 impl Object {
-    /// The same object once more.
+    /// Returns a copy of the object.
     pub fn copy(&self) -> Result<Object, AllocError>
         ensures { IfOk result (λ made. object_of made ≡ object_of self.now) }
     {
@@ -61,7 +61,7 @@ impl Object {
         }
     }
 
-    /// Whether two objects are one.
+    /// Whether two objects are the same.
     pub fn is_same(&self, other: &Object) -> bool
         ensures { result ≡ same_object (object_of self.now) (object_of other.now) }
     {
@@ -79,7 +79,7 @@ impl Object {
 }
 
 impl Cell {
-    /// The same content once more.
+    /// Returns a copy of the cell.
     pub fn copy(&self) -> Result<Cell, AllocError>
         ensures { IfOk result (λ made. cell_of made ≡ cell_of self.now) }
     {
@@ -91,7 +91,7 @@ impl Cell {
         }
     }
 
-    /// The number of a cell; any other cell counts as 0.
+    /// Returns the number of a cell; any other cell counts as 0.
     pub fn number(&self) -> i128
         ensures { result ≡ number_in (cell_of self.now) }
     {
@@ -112,7 +112,7 @@ impl Cell {
         }
     }
 
-    /// A pointer so many bytes further on; null stays null.
+    /// Returns a pointer plus a number of bytes; null stays null.
     pub fn further(self, bytes: u64) -> Result<Cell, AllocError>
         ensures { IfOk result (λ made. cell_of made ≡ further (cell_of self) bytes) }
     {
@@ -137,7 +137,7 @@ impl Cell {
         }
     }
 
-    // What an entry returned with this content.
+    // Returns what an entry returned with this cell.
     fn returned(&self) -> Returned
         ensures { result ≡ returned_cell (cell_of self.now) }
     {
@@ -159,7 +159,7 @@ impl Clone for Cell {
 }
 
 impl Operand {
-    /// The same value once more.
+    /// Returns a copy of the value.
     pub fn copy(&self) -> Result<Operand, AllocError>
         ensures { IfOk result (λ made. operand_of made ≡ operand_of self.now) }
     {
@@ -176,7 +176,7 @@ impl Operand {
         }
     }
 
-    /// The scalar that an operand is; any other counts as unset.
+    /// Returns an operand as a scalar; any other counts as unset.
     pub fn into_cell(self) -> Cell
         ensures { cell_of result ≡ machine.cell_of (operand_of self) }
     {
@@ -186,7 +186,7 @@ impl Operand {
         }
     }
 
-    /// The number that an operand is; any other counts as 0.
+    /// Returns an operand as a number; any other counts as 0.
     pub fn number(&self) -> i128
         ensures { result ≡ number_in (machine.cell_of (operand_of self.now)) }
     {
@@ -196,7 +196,7 @@ impl Operand {
         }
     }
 
-    /// What an entry returned with this value.
+    /// Returns what an entry returned with this value.
     pub fn returned(&self) -> Returned
         ensures { result ≡ returned_of (operand_of self.now) }
     {
@@ -208,16 +208,16 @@ impl Operand {
     }
 }
 
-/// Drops an object that isn't needed any more: where this is called, nothing else has to.
+/// Drops an object that isn't needed any more, so that nothing else has to.
 pub fn let_go_of_object(_object: Object) {}
 
-/// The same of a content.
+/// The same for a cell.
 pub fn let_go_of_cell(_cell: Cell) {}
 
-/// The same of a value.
+/// The same for a value.
 pub fn let_go_of_operand(_operand: Operand) {}
 
-// The same scalars once more.
+// Returns a copy of the scalars.
 fn copied(cells: &Vec<Cell>) -> Result<Vec<Cell>, AllocError>
     ensures { IfOk result (λ made. map cell_of made.items ≡ map cell_of cells.now.items) }
 {

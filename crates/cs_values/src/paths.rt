@@ -5,7 +5,7 @@ ghost use Rattle.cs_meaning.specs.Calls as calls;
 use cs_inputs::{Cells, Path, Root};
 use std::alloc::Global;
 
-/// The path of a root: it has no cells.
+/// Returns the path that is only a root.
 pub fn root_path(alloc: Global, root: Root) -> Path
     ensures { result ≡ calls.root_path root }
 {

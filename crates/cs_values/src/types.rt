@@ -9,7 +9,7 @@ use cs_ast::typed::program::Program;
 use cs_types::{CType, DataModel, StructTable, size};
 use std::alloc::AllocError;
 
-/// The bytes of a type; an incomplete one has none (C11 6.5.3.4). More than 2^40 bytes are want of memory.
+/// Returns the size of a type; 0 for an incomplete one (C11 6.5.3.4). More than 2^40 bytes count as out of memory.
 pub fn size_of(program: &Program, ty: &CType) -> Result<u64, AllocError>
     requires { HasLayouts program.now }
     ensures { IfOk result (λ bytes.
@@ -21,7 +21,7 @@ pub fn size_of(program: &Program, ty: &CType) -> Result<u64, AllocError>
     Ok(size(program.model, &program.table, ty).unwrap_or(0))
 }
 
-// Whether no size in a type passes 2^40.
+// Whether no size in a type exceeds 2^40.
 pub fn is_small(model: DataModel, table: &StructTable, ty: &CType) -> bool
     requires { IsLaidOut model table.now.list }
     ensures { IsTrue result → HasSmallSizes model table.now.list (shape_of ty.now) }
@@ -37,7 +37,7 @@ pub fn is_small(model: DataModel, table: &StructTable, ty: &CType) -> bool
     }
 }
 
-// Whether so many elements of a type have at most 2^40 bytes.
+// Whether `count` elements of a type have at most 2^40 bytes.
 fn is_small_row(model: DataModel, table: &StructTable, element: &CType, count: u64) -> bool
     requires laid_out { IsLaidOut model table.now.list }
     requires small { HasSmallSizes model table.now.list (shape_of element.now) }
@@ -49,7 +49,7 @@ fn is_small_row(model: DataModel, table: &StructTable, element: &CType, count: u
     }
 }
 
-// Whether so many elements of so many bytes have at most 2^40 bytes.
+// Whether a count times a size is at most 2^40 bytes.
 fn is_small_product(count: u64, bytes: u64) -> bool
     ensures { IsTrue result → count * bytes ≤ 2 ^ 40 }
 {
