@@ -1,4 +1,4 @@
-/* Functions of the small form, which csa analyze handles. */
+/* Integer functions, of whose faults csa analyze is proved to miss none. */
 #include <stddef.h>
 #include "rates.h"
 
