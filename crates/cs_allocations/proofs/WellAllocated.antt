@@ -1,4 +1,4 @@
--- In a well-formed program each allocation has the arguments that its function takes: for the lowering of typed programs.
+-- In a well-formed program each allocation has the arguments that its function requires: for the lowering of typed programs.
 use Rattle.std.proofs.Common.{◌≡◌, ℕ, zero, suc, List, [], ◌∷◌, Option, Some, None, refl, subst}
 use Rattle.std.specs.Prelude.{IfSome, slice_get, unwrap_or}
 use Rattle.std.specs.List.{AllByRecursion}
@@ -22,7 +22,7 @@ use Rattle.cs_well_formed.specs.Initials.{IsWellInitial, AreWellParts}
 use Rattle.cs_well_formed.specs.Statements.{IsDroppedIfAny, IsTestIfAny, IsReturned, IsWellStatement, AreWellStatements}
 use Rattle.cs_well_formed.specs.Programs.{setting_of, IsWellBody, IsWellRoutine, IsWellFormed}
 
--- values that have the types of an allocation's sizes are as many
+-- as many values as an allocation has sizes
 sizes-counted : (model : DataModel) (allocator : Allocator) (arguments : TypedList) → AreValuesOf arguments (sizes_of model allocator)
     → count_all arguments ≡ allocator_takes allocator
 sizes-counted model Malloc (Further one NoMore) h = refl
@@ -121,7 +121,7 @@ mutual
   statements-allocate s Empty h = tt
   statements-allocate s (Then first others) h = (statement-allocates s first h.0, statements-allocate s others h.1)
 
--- a function with a number, among well-formed ones
+-- the function with a number in a list of well-formed functions
 routine-allocates : (p : TypedProgram) (routines : List Routine) → AllByRecursion (IsWellRoutine p) routines → (function : ℕ) (body : Statement) →
     (unwrap_or (slice_get routines function) (no_routine NOWHERE)).body ≡ Some body → StatementHasArguments body
 routine-allocates p [] h function body is = absurd cc

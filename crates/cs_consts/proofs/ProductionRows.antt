@@ -52,7 +52,7 @@ bounds-row : (c : Context) (ls : Literals) (n : _) (row : Row_of-RawExpr n) → 
 bounds-row c ls n end_of-RawExpr = refl
 bounds-row c ls n (more_of-RawExpr place p k rest) = ap (lift2 bound_taken _) (bounds-row c (literals_after ls k) _ rest)
 
--- the row of an expression's arguments or bounds
+-- the arguments or bounds of an expression as a row
 abbrev row_of : RawExprKind → (n : Count) × Row_of-RawExpr n
 row_of (kind.Call' place p function shape row) = (_, row)
 row_of (kind.SizeOfType' ty shape row) = (_, row)

@@ -1,4 +1,4 @@
--- The result of each production's rule whose parts are known, or one of whose parts is refused: for the cycle of typing.
+-- The result of each production's rule if the parts are typed, or one of them has a type error: for the cycle of typing.
 use Rattle.std.proofs.Common.{◌≡◌, ℕ, List, true, false, cond, eqb, Option, Some, None, length, refl, sym, ap, arith}
 use Rattle.std.proofs.lemmas.Bool.Decides.{nat_tests}
 use Rattle.std.proofs.Common.{◌∙◌, Result, subst, map}
@@ -40,7 +40,7 @@ use Rattle.cs_consts.specs.Typing.{call_formed, call_or_not, call_with, no_funct
 use Rattle.cs_scopes.proofs.Lifting.{lift-fine, lift2-fine, lift3-fine, lift-refused, lift2-refused-first, lift2-refused-second, lift3-refused-first}
 use Rattle.cs_scopes.proofs.Lifting.{lift3-refused-second, lift3-refused-third, yields_as, refused_as}
 
--- the expression for its purpose, and its value
+-- the expression, finished for its purpose, and its value
 pub done_stops : (c : Context) (p : Purpose) (v : Verdict Typed) (r : TypeRefusal) → IsRefused v r → IsRefused (done c p v) r
 unfolding done
 done_stops c p v r h = lift-refused (finished c.model p) v r h
@@ -65,7 +65,7 @@ pub operand_is : (c : Context) (p : Purpose) (v : Verdict Typed) (e : Typed) →
 unfolding operand_in
 operand_is c p v e h = ap (lift (operand c.table.list)) h ∙ lift-fine (operand c.table.list) e
 
--- an operator between two operands
+-- an operator on two operands
 between-fine : (at : Place) (asks : Shape → Option TypeCode) (rule : Typed → Typed → Verdict Typed) (l : Typed) (w : Verdict Typed)
     → between at asks rule (Fine l) w ≡ lift (rule l) (led at (asks (type_of l)) w)
 unfolding between
@@ -114,7 +114,7 @@ right_operand c right x y ls ms e f =
     sym (ap (λ z. operand_in c z (formed c z ls None right.place right.kind.value)) e
     ∙ ap (λ z. operand_in c y (formed c y z None right.place right.kind.value)) f)
 
--- the right operand, after literals and for a purpose that are known
+-- the right operand, with the literals before it and its purpose
 abbrev right_in : Context → RawExpr → Literals → Purpose → Verdict Typed
 right_in c right ms following = operand_in c following (formed c following ms None right.place right.kind.value)
 
@@ -176,7 +176,7 @@ subscript_taken c p ls ms at left right l s fault result e g is h k =
     yields_as result (subscript_is c p ls ms at left right l e g
     ∙ between_is at (left_operand_fault c.table.list infix_op.Add) (indexed_values c at) l s (right_in c right ms p) fault is h) k
 
--- a choice
+-- a conditional expression
 choice_is : (c : Context) (p : Purpose) (ls : Literals) (at : Place) (test one other : RawExpr) (yields : Verdict Typed) (t : Typed) → yields ≡ Fine t
     → lift3 (chosen_values c at) yields
     (value_in c (purpose_if true p yields) (formed c (purpose_if true p yields) (literals_after ls test.kind.value) None one.place one.kind.value))
@@ -249,7 +249,7 @@ choice_taken c p ls ms ns at test one other e t o q following last result f g k 
     ∙ ap (lift3 (chosen_values c at) (Fine t) (Fine o)) (branch c other last _ ns _ l (n ∙ ap (λ x. literals_after x one.kind.value) m) ∙ i)
     ∙ lift3-fine (chosen_values c at) t o q) j
 
--- an operator that stores
+-- an assignment operator
 left_is : (at : Place) (op : AssignOp) (v : Verdict Typed) (e o : Typed) → v ≡ Fine e → left_side op at e ≡ Fine o
     → lift (left_side op at) v ≡ Fine o
 left_is at op v e o f g = ap (lift (left_side op at)) f ∙ lift-fine (left_side op at) e ∙ g
@@ -260,7 +260,7 @@ right_side c p value ls ms s t e f =
     sym (ap (λ z. operand_in c p (formed c p z s value.place value.kind.value)) e
     ∙ ap (λ z. operand_in c p (formed c p ms z value.place value.kind.value)) f)
 
--- the right side of one, after literals and for a target that are known
+-- its right operand, with the literals before it and its target
 abbrev right_of : (c : Context) (p : Purpose) (value : RawExpr) (ms : Literals) (target : Option Shape) → Verdict Typed
 right_of c p value ms target = operand_in c p (formed c p ms target value.place value.kind.value)
 
@@ -334,12 +334,12 @@ call_some : (c : Context) (at : Place) (target : Option Shape) (f : Signature) (
 unfolding call_or_not
 call_some c at target f count v fault values = refl
 
--- the refusal of a verdict on something else
+-- the type error of one result, or else another result
 abbrev refused_alike : {A B : Type 0} → Verdict B → Verdict A → Verdict B
 refused_alike otherwise (Fine value) = otherwise
 refused_alike otherwise (Fault code place) = Fault code place
 
--- of a verdict on what comes after a place, where a code may hold
+-- a result after a position where a code may hold
 fault_refused : {A B : Type 0} (at : Place) (fault : Option TypeCode) (rule : A → Verdict B) (v : Verdict A) (r : TypeRefusal)
     → IsRefused (unless_fault at fault v) r → IsRefused (unless_fault at fault (lift rule v)) r
 fault_refused at None rule v r h = lift-refused rule v r h
@@ -365,14 +365,14 @@ counted n count other h = elim (eqb n count) as (λ t. eqb n count ≡ t → con
   | false ↦ λ _ p. absurd cc
 ] refl h
 
--- a call of which nothing is refused at its place has an argument for each parameter
+-- a call without a type error at its position has an argument for each parameter
 pub call_counts : {A : Type 0} (at : Place) (target : Option Shape) (count : ℕ) (f : Signature) (fault : Option TypeCode) (v : Verdict A) (a : A)
     → unless_fault at (least_code (call_fault target count f) fault) v ≡ Fine a → length f.parameters ≡ count
 unfolding call_fault
 call_counts at target count f fault v a h =
     counted (length f.parameters) count _ (first_none (call_fault target count f) fault (no_fault at (least_code (call_fault target count f) fault) v a h))
 
--- the same of a function itself
+-- the same for the declared function
 pub call_passes : {A : Type 0} (at : Place) (target : Option Shape) (count : ℕ) (f : DeclaredFunction) (said : Option TypeCode) (fault : Option TypeCode)
     (v : Verdict A) (a : A) → said ≡ call_fault target count (signature_of f) → unless_fault at (least_code said fault) v ≡ Fine a
     → count ≡ vec_len f.parameters
@@ -391,7 +391,7 @@ module _ (c : Context) (p : Purpose) (ls : Literals) (target : Option Shape) (at
   call_other v e f = call_none c at target _ (length arguments) _ _ _ e ∙ ap (lift (no_function at)) f ∙ lift-fine (no_function at) v
 
   module _ (f : Signature) (is_function : called c.scope.declarations function.kind.value ≡ Some f) where
-    -- the values of the arguments, unless the call's place says something of them
+    -- the arguments, unless the call has a type error at its position
     abbrev passed : Verdict TypedList
     passed = unless_fault at (least_code (call_fault target (length arguments) f) (arguments_listed_fault c p ls at f.parameters arguments))
         (arguments_listed c p ls f.parameters arguments)

@@ -43,23 +43,23 @@ argument_more made e (Fault code place) =
     ap (lift (expressions_before made)) (lift2-second further (typed e) code place) ∙ lift-fault (expressions_before made) code place
     ∙ sym (lift-fault (expressions_before (made ++ e ∷ [])) code place)
 
--- two parts at once
+-- two equations as one of pairs
 pub both : {A B : Type 0} {a b : A} {x y : B} → a ≡ b → x ≡ y → ◌≡◌ {A = A × B} (a, x) (b, y)
 both {A} {B} {a} {b} {x} {y} e f = ap (λ z. (z, x)) e ∙ ap (λ z. (b, z)) f
 
--- something is refused so far
+-- there was a type error before
 pub some_refused : {A P : Type 0} (refused : Option A) (refusal : A) → option_or refused (Some refusal) ≡ None → P
 some_refused None refusal e = absurd cc
 some_refused (Some earlier) refusal e = absurd cc
 
--- one more of the values, unless an earlier argument is refused
+-- one more value, unless an earlier argument has a type error
 unless_more : (refused : Option (TypeCode × Place)) (made : List Expr) (e : Expr) (v w whole : Verdict TypedList) → v ≡ lift2 further (Fine (typed e)) w
     → unless_stopped refused (lift (expressions_before made) v) ≡ whole
     → unless_stopped refused (lift (expressions_before (made ++ e ∷ [])) w) ≡ whole
 unless_more None made e v w whole is so_far = sym (argument_more made e w) ∙ ap (lift (expressions_before made)) (sym is) ∙ so_far
 unless_more (Some refusal) made e v w whole is so_far = so_far
 
--- the first that is refused
+-- the first type error
 unless_refused : (refused : Option (TypeCode × Place)) (made : List Expr) (code : TypeCode) (place : Place) (v w rest whole : Verdict TypedList)
     (more : List Expr) → v ≡ lift2 further (Fault code place) w → unless_stopped refused (lift (expressions_before made) v) ≡ whole
     → unless_stopped (option_or refused (Some (code, place))) (lift (expressions_before more) rest) ≡ whole
@@ -114,7 +114,7 @@ module _ (c : Context) (p : Purpose) (at : Place) (ty : Shape) (types following 
       ap (λ l. least_code least (arguments_listed_fault c p l at following rest)) is_literals
       ∙ ap (least_code least) (sym (codes_are (Fault code place) is_value)) ∙ so_far
 
--- no argument or no parameter is left
+-- no argument or no parameter remains
 module _ (c : Context) (p : Purpose) (at : Place) (types : List Shape) (arguments : List RawExpr) (ls : Literals) (over : (types ≡ []) ⊎ (arguments ≡ []))
   where
     values_over : (types : List Shape) (arguments : List RawExpr) → (types ≡ []) ⊎ (arguments ≡ [])
@@ -141,7 +141,7 @@ module _ (c : Context) (p : Purpose) (at : Place) (types : List Shape) (argument
     pub codes_end : (least whole : Option TypeCode) → least_code least (arguments_listed_fault c p ls at types arguments) ≡ whole → least ≡ whole
     codes_end least whole so_far = sym (least_code-none least) ∙ ap (least_code least) (sym (codes_over types arguments over)) ∙ so_far
 
--- one of two lists is over at a place
+-- one of two lists ends before an index
 split_min : (a b i : ℕ) → min a b ≤ i → (a ≤ i) ⊎ (b ≤ i)
 split_min a b i h = by_test (nat_le a i) refl
   where
@@ -199,11 +199,11 @@ module _ (c : Context) (a : RawExpr) (bounds rest : List RawExpr) (ls ms : Liter
   bound_stops refused code place whole is_value so_far =
       bounds_stopped refused code place _ _ _ whole (bounds_are (Fault code place) is_value) so_far
 
--- nothing made so far
+-- no expressions so far
 pub none_before : (v : Verdict TypedList) → lift (expressions_before []) v ≡ v
 none_before (Fine rest) = lift-fine (expressions_before []) rest
 none_before (Fault code place) = lift-fault (expressions_before []) code place
 
--- what stands at a place of a list, before what is after it
+-- the element at an index, before those after it
 pub at_place : {A : Type 0} (i : ℕ) (xs : List A) (x : A) → i < length xs → x ≡ get_or xs i x → drop i xs ≡ x ∷ drop (i + 1) xs
 at_place i xs x within read = drop-cons xs i x within ∙ ap (λ y. y ∷ drop (suc i) xs) (sym read) ∙ ap (λ j. x ∷ drop j xs) (sym (add-one i))

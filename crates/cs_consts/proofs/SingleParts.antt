@@ -1,4 +1,4 @@
--- The results of the rules of productions with one part: steps, prefix operators, members, sizes and sequences.
+-- The results of the rules of productions with one part: `++` and `--`, prefix operators, members, sizes and sequences.
 use Rattle.std.proofs.Common.{◌≡◌, ℤ, List, ap, subst, ◌∙◌, Result, Ok, Err}
 use Rattle.std.specs.Prelude.{OnOk}
 use Rattle.cs_types.specs.Shape.{Shape}
@@ -24,7 +24,7 @@ pub lift2_is : {A B C : Type 0} (rule : A → B → Verdict C) (v : Verdict A) (
     → lift2 rule v w ≡ rule a b
 lift2_is rule v w a b e f = ap (λ x. lift2 rule x w) e ∙ ap (lift2 rule (Fine a)) f ∙ lift2-fine rule a b
 
--- one part, for which the rule gives the rest
+-- one typed part, to which the rule is applied
 pub part_taken : (rule : Typed → Verdict Typed) (v : Verdict Typed) (e : Typed) (result : Result Expr TypeRefusal) → v ≡ Fine e → Yields (rule e) result
     → Yields (lift rule v) result
 part_taken rule v e result f h = yields_as result (lift_is rule v e f) h
@@ -37,7 +37,7 @@ pub second_stops : (rule : Typed → Typed → Verdict Typed) (v w : Verdict Typ
     → IsRefused (lift2 rule v w) r
 second_stops rule v w a r e h = refused_as r (ap (λ x. lift2 rule x w) e) (lift2-refused-second rule a w r h)
 
--- a step
+-- `++` and `--`
 pub step_object_stops : (c : Context) (at : Place) (op : BinOp) (gives : Gives) (v : Verdict Typed) (r : TypeRefusal) → IsRefused v r
     → IsRefused (lift (stepped_object c op gives at) (lift (steppable c.table.list op at) v)) r
 step_object_stops c at op gives v r h = lift-refused (stepped_object c op gives at) _ r (lift-refused (steppable c.table.list op at) v r h)
@@ -86,7 +86,7 @@ module _ (c : Context) (at : Place) (base : Verdict Shape) (ns : List ℤ) (boun
           ap (λ x. lift2 size_alone x bounds) (measured_is ∙ is_size) ∙ ap (lift2 size_alone (Fine size)) refused
           ∙ lift2-second size_alone size code place
 
--- what holds whatever a call gives holds where it gives something
+-- what always holds also holds if a call returns a value
 pub on_ok : {A E P : Type 0} (result : Result A E) → P → OnOk result P
 on_ok (Ok value) p = p
 on_ok (Err error) p = tt

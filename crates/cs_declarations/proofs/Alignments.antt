@@ -15,15 +15,15 @@ use Rattle.cs_types.specs.Layout.{complete_count, layout_of}
 use Rattle.cs_types.specs.LeafSearch.{layout_within}
 use Rattle.cs_types.proofs.Nesting.{mapped, chained, first_member}
 
--- the alignment of a layout is low
+-- the alignment of a layout is at most 8
 abbrev pub IsLow : Layout → Type 0
 IsLow l = l.align ≤ 8
 
--- a function has such layouts only
+-- a function that returns only such layouts
 abbrev pub GivesLow : {K : Type 0} → (K → Option Layout) → Type 0
 GivesLow {K} f = (k : K) (l : Layout) → f k ≡ Some l → IsLow l
 
--- each layout of a list is such a one
+-- each layout of a list has such an alignment
 abbrev pub AllLow : List Layout → Type 0
 AllLow [] = Unit {0}
 AllLow (l ∷ ls) = IsLow l × AllLow ls
@@ -81,7 +81,7 @@ struct_layout-low model table (suc depth) k l h =
 pub layout_of-low : (model : DataModel) (table : List StructType) → GivesLow (layout_of model table)
 layout_of-low model table = layout_with-low model (struct_layout model table (complete_count table)) (struct_layout-low model table (complete_count table))
 
--- nor have members side by side
+-- nor has the layout of members side by side
 pub members-low : (model : DataModel) (table : List StructType) (ms : List Member) (ls : List Layout) → member_layouts (layout_of model table) ms ≡ Some ls
     → (side_by_side 0 ls).align ≤ 8
 members-low model table ms ls h = side_by_side-low 0 ls (member_layouts-low (layout_of model table) (layout_of-low model table) ms ls h)

@@ -1,4 +1,4 @@
--- The words and the members of a body over rows and over lists: for the types that specifiers with bodies name.
+-- The specifiers and the members of a body as rows and as lists: for the types that specifiers with bodies name.
 use Rattle.std.proofs.Common.{◌≡◌, ℕ, ◌+◌, ◌<◌, Bool, List, ◌∷◌, Option, Some, None, length, drop, get_or, refl, sym, ap, ◌∙◌, Vec}
 use Rattle.std.proofs.Common.{Global}
 use Rattle.std.specs.Option.{unwrap_or}
@@ -17,7 +17,7 @@ use Rattle.cs_declarations.specs.Environment.{Environment}
 use Rattle.cs_declarations.specs.Bodies.{Laying, Opening, Body, nothing_laid, opening, struct_read, group_declared, first_name, plain_row, plain_words}
 use Rattle.cs_declarations.specs.Bodies.{row_type, words_type, members_read, members_of_list, struct_body, enum_body, word_type}
 
--- rules that give the same are the same after another one
+-- rules with equal results are equal after another rule
 lift-same : {A B : Type 0} (f g : A → Verdict B) (v : Verdict A) → ((a : A) → f a ≡ g a) → lift f v ≡ lift g v
 unfolding lift
 lift-same f g (Fine a) same = same a
@@ -51,12 +51,12 @@ row-members n (words.more_of-RawMember shape row tag declarators others) k befor
     ∙ ap (λ all. words_type k tag at all (words.items-the_row-SpecWord _ row)) (row-plain _ row)
     ∙ ap (λ ws. words_type k tag at (plain_words ws) ws) (sym (words.items_shown-the_row-SpecWord-0 shape row)))
 
--- the row of the members of a struct
+-- the members of a struct as a row
 abbrev members_of : SpecWord → (n : Count) × words.Row_of-RawMember n
 members_of (words.TheVariants.Struct' tag shape row) = (_, row)
 members_of _ = (_, words.end_of-RawMember)
 
--- a struct's body among words
+-- a struct's body among specifiers
 pub words-struct : (k : Environment) (at_tag : Option Place) (at : Place) (all : List TypeWord) (tag : Option (List ℕ)) (list : Vec RawMember Global)
     (others : List SpecWord) → words_type k at_tag at all (words.TheVariants.Struct tag list ∷ others)
     ≡ struct_body k (tag_place at at_tag) tag list.items
@@ -73,7 +73,7 @@ module _ (k : Environment) (at_tag : Option Place) (at : Place) (all : List Type
   among : (v : SpecWord) → w ≡ v → words_type k at_tag at all (drop i ws) ≡ words_type k at_tag at all (v ∷ drop (i + 1) ws)
   among v e = at_drop_more (words_type k at_tag at all) ws i w within ∙ ap (λ x. words_type k at_tag at all (x ∷ drop (i + 1) ws)) (sym is ∙ e)
 
-  -- the first body among words decides their type
+  -- the first body among specifiers decides their type
   pub struct_among : (tag : Option (List ℕ)) (list : Vec RawMember Global) → w ≡ words.TheVariants.Struct tag list
       → words_type k at_tag at all (drop i ws) ≡ struct_body k (tag_place at at_tag) tag list.items
   struct_among tag list e = among (words.TheVariants.Struct tag list) e ∙ words-struct k at_tag at all tag list (drop (i + 1) ws)
@@ -82,7 +82,7 @@ module _ (k : Environment) (at_tag : Option Place) (at : Place) (all : List Type
       → words_type k at_tag at all (drop i ws) ≡ enum_body k (tag_place at at_tag) tag constants.items
   enum_among tag constants comma e = among (words.TheVariants.Enum tag constants comma) e
 
--- the place of the tag, as it is reported
+-- the position of the tag in a type error
 pub tag_reported : (at_tag : Option Place) (at : Place) → unwrap_or at_tag at ≡ tag_place at at_tag
 tag_reported None at = refl
 tag_reported (Some place) at = refl

@@ -11,7 +11,7 @@ use Rattle.cs_declarations.specs.Environment.{Environment, with_reading}
 use Rattle.cs_declarations.specs.Bodies.{Typing, Opening, Body, nothing_laid, opening, struct_read, members_of_list, struct_body, with_members, name_or_none}
 use Rattle.cs_declarations.proofs.SaidSoFar.{refused_by}
 
--- bodies that are read without the last one
+-- the bodies that are being read, without the last one
 popped : (before now : List ℕ) (n : ℕ) → now ≡ before ++ n ∷ [] → take (length now - 1) now ≡ before
 popped before now n e =
     let one : length (before ++ n ∷ []) - 1 ≡ length before = omega (arith, length-append before (n ∷ [])) in

@@ -53,7 +53,7 @@ module _ (added : StructType) (open_yet : added.members ≡ None) where
   pushed model table h = λ number laid ms stands has.
       IsLaid-Grows model table (table ++ added ∷ []) (Grows-push table) number laid ms (h number laid ms (stands_before table number laid ms stands has) has)
 
--- ---- a struct in place of another
+-- ---- a struct replaced by another
 pub set-here : (table : List StructType) (number : ℕ) (s : StructType) → number < length table → slice_get (slice_set table number s) number ≡ Some s
 set-here [] number s h = absurd (omega arith)
 set-here (x ∷ xs) zero s h = refl
@@ -100,7 +100,7 @@ module _ (model : DataModel) (table : List StructType) (number : ℕ) (within : 
   }
 
   module _ (ls : List Layout) (laid : member_layouts (layout_of model table) ms ≡ Some ls) where
-    -- the layout that the struct gets
+    -- the layout of the struct after that
     struct-laid : layout_of model after (struct number) ≡ Some (padded (side_by_side 0 ls))
     struct-laid =
         let inner = layout_with-Extends model (struct_layout model table (complete_count table)) (struct_layout model after (complete_count table))
@@ -125,7 +125,7 @@ module _ (model : DataModel) (table : List StructType) (number : ℕ) (within : 
         },
       )
 
-      -- a table in which a struct has its members
+      -- a table in which a struct has got its members
       pub completed : IsLaidOut model table → IsLaidOut model (slice_set table number s)
       completed h other found xs stands with' = elim (cases_eq other number) [
         | inl same ↦ at_number other found xs same stands with'

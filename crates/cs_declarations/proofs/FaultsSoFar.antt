@@ -99,7 +99,7 @@ module _ (c : Context) (storage : Storage) (at : Place) where
         ∙ ap (list_fault c literals storage at (ty ∷ following)) there))
         ∙ so_far
 
--- a value that is refused is none of which the `=` says anything
+-- the `=` has no type error for a value that is refused before
 pub nothing_said : {A : Type 0} (rule : Initial → Verdict Initial) (read : Verdict Reading) (fault : Option TypeCode) (result : Result A TypeRefusal)
     (r : TypeRefusal) → result ≡ Err r → IsRefused read r → UnlessMemory result (fault ≡ least_code fault (reading_fault rule read))
 nothing_said {A} rule read fault result r is h =
@@ -114,7 +114,7 @@ unless_memory-then (Ok value) follows held = follows held
 unless_memory-then (Err (Code code place)) follows held = follows held
 unless_memory-then (Err Memory) follows held = tt
 
--- of what is read after a place: another code that is the same unless memory ran out
+-- in the result at a position, a code may be replaced by one that equals it unless memory ran out
 pub same_code : (v : Verdict Reading) (at : Place) (fault said : Option TypeCode) (read result : Result Held TypeRefusal) (following : Literals)
     → UnlessMemory read (fault ≡ said) → (read ≡ Err Memory → result ≡ Err Memory)
     → AnswersWith reading (unless_fault at fault v) result following
@@ -125,7 +125,7 @@ same_code v at fault said (Err (Code code place)) result following is memory h =
 same_code v at fault said (Err Memory) result following is memory h =
     subst (λ r. AnswersWith reading (unless_fault at said v) r following) (sym (memory refl)) tt
 
--- what is read of an expression isn't a list
+-- the result for an expression is never a list
 abbrev first_read : Initial → Verdict Reading → Initial
 first_read other (Fine r) = r.0
 first_read other (Fault code place) = other
@@ -145,7 +145,7 @@ no_list c literals then_literals (integer t) e parts is = never_list literals th
 no_list c literals then_literals (pointer t) e parts is = never_list literals then_literals e parts (operand_of c literals (Some (pointer t)) e) is
 no_list c literals then_literals (struct n) e parts is = never_list literals then_literals e parts (operand_of c literals (Some (struct n)) e) is
 
--- the `=` says nothing of what is read of an expression and is no value
+-- the `=` has no type error for an expression that isn't a value
 pub text_said : (rule : Initial → Verdict Initial) (c : Context) (literals then_literals : Literals) (ty : Shape) (e : RawExpr) (read : Held)
     → ((bytes : List ℕ) → code_in (rule (Bytes bytes)) ≡ None) → expression_read c literals ty e ≡ Fine (initial read, then_literals)
     → ((v : Expr) → read ≡ held.Value v → reading_fault rule (expression_read c literals ty e) ≡ None)

@@ -1,10 +1,10 @@
--- Properties of the value of a verdict, if it has one: for properties that rules hand on to rules.
+-- Properties of the value of a result, if it has one: for properties that rules preserve.
 use Rattle.std.proofs.Common.{◌≡◌, Bool, true, false, cond, Result, Ok, Err, OnOk, refl, subst}
 use Rattle.cs_scopes.specs.declared.refusal.TypeRefusal.{TypeRefusal}
 use Rattle.cs_scopes.specs.Verdicts.{Verdict, Fine, Fault, lift}
 use Rattle.cs_declarations.specs.Answered.{AnswersWith}
 
--- what a verdict gives, if it is fine, has a property
+-- if the result is a value, it has the property
 abbrev pub IfFine : {A : Type 0} → Verdict A → (A → Type 0) → Type 0
 IfFine (Fine value) P = P value
 IfFine (Fault code place) P = Unit {0}
@@ -15,7 +15,7 @@ unfolding lift
 IfFine-lift rule (Fine a) P Q h go = go a h
 IfFine-lift rule (Fault code place) P Q h go = tt
 
--- where all that is known of a value is its type
+-- the same where only the type of the value is known
 pub IfFine-lift_any : {A B : Type 0} (rule : A → Verdict B) (v : Verdict A) (Q : B → Type 0) → ((a : A) → IfFine (rule a) Q) → IfFine (lift rule v) Q
 unfolding lift
 IfFine-lift_any rule (Fine a) Q go = go a
@@ -29,7 +29,7 @@ IfFine-cond false v w P first second = second refl
 pub IfFine-at : {A : Type 0} (v : Verdict A) (P : A → Type 0) (a : A) → v ≡ Fine a → IfFine v P → P a
 IfFine-at v P a e h = subst (λ (x : Verdict _). IfFine x P) e h
 
--- so what a function answers has it, with what was changed
+-- then the value that a function returns has it too, with what it changed
 pub answer-IfFine : {A B C : Type 0} (view : A → B → C) (v : Verdict C) (r : Result A TypeRefusal) (after : B) (P : C → Type 0) (Q : Type 0)
     → AnswersWith view v r after → IfFine v P → ((a : A) → P (view a after) → Q) → OnOk r Q
 answer-IfFine view v (Ok a) after P Q e h go = go a (IfFine-at v P (view a after) e h)

@@ -1,4 +1,4 @@
--- The first of sizes and those after it: for the type of a declarator with bounds, and how a parameter with bounds is passed.
+-- The first size and those after it: for the type of a declarator with bounds, and how a parameter with bounds is passed.
 use Rattle.std.proofs.Common.{◌≡◌, ℤ, ◌≤◌, ◌-◌, List, [], ◌∷◌, Option, None, length, take, drop, get_or, sym, ap, subst, ◌∙◌}
 use Rattle.std.proofs.Common.{arith}
 use Rattle.std.proofs.lemmas.List.{take_all}

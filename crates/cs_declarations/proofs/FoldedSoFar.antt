@@ -1,4 +1,4 @@
--- Rules on a list, of which a part is read: for the loops over constants, members, typedefs and parameters.
+-- Rules on a list that is partly read: for the loops over constants, members, typedefs and parameters.
 use Rattle.std.proofs.Common.{◌≡◌, ℕ, ◌+◌, ◌<◌, ◌≤◌, List, [], ◌∷◌, length, drop, get_or, sym, ap, ◌∙◌}
 use Rattle.std.proofs.lemmas.List.{at_drop_more, drop_all}
 use Rattle.cs_scopes.specs.declared.refusal.TypeRefusal.{TypeRefusal}
@@ -6,7 +6,7 @@ use Rattle.cs_scopes.specs.Verdicts.{Verdict, Fine, lift, IsRefused}
 use Rattle.cs_scopes.proofs.Lifting.{lift-fine, lift-refused}
 use Rattle.cs_declarations.proofs.SaidSoFar.{refused_by}
 
--- a rule on a list of parts is that on its first part, and then that on the others
+-- a rule on a list applies a rule to the first element, then itself to the others
 abbrev pub GoesOver : {D S : Type 0} → (List D → S → Verdict S) → (D → S → Verdict S) → Type 0
 GoesOver {D} {S} whole part = ((parts : List D) (first : D) (before : S) → whole (first ∷ parts) before ≡ lift (whole parts) (part first before))
     × ((before : S) → whole [] before ≡ Fine before)

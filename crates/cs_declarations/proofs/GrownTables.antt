@@ -42,7 +42,7 @@ module _ (model : DataModel) (before after : List StructType) (grows : Grows bef
       let P : Option Layout → Type 0 = λ o. IfSome o (λ layout. layout.size ≤ 2 ^ 40) in
       subst P (e ∙ sym (layout_of-Grows shape l e)) h
 
-  -- and its small sizes
+  -- and its bound on sizes
   pub HasSmallSizes-Grows : (shape : Shape) (l : Layout) → layout_of model before shape ≡ Some l → HasSmallSizes model before shape
       → HasSmallSizes model after shape
   HasSmallSizes-Grows void l e h = tt
@@ -66,7 +66,7 @@ module _ (model : DataModel) (before after : List StructType) (grows : Grows bef
       → member_layouts (layout_of model after) ms ≡ Some ls
   layouts-Grows = member_layouts-Extends (layout_of model before) (layout_of model after) layout_of-Grows
 
-  -- a struct that is laid out stays so
+  -- a struct that has a layout keeps it
   pub IsLaid-Grows : (number : ℕ) (laid : StructType) (ms : List Member) → HasSmallSizes model before (struct number) × IsLaid model before number laid ms
       → HasSmallSizes model after (struct number) × IsLaid model after number laid ms
   IsLaid-Grows number laid ms h =

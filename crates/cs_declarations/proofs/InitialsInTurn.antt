@@ -21,7 +21,7 @@ use Rattle.cs_declarations.specs.Initializers.{initial_fault, initial_typed}
 use Rattle.cs_declarations.specs.Answered.{AnswersWith}
 use Rattle.cs_declarations.specs.View.{reading}
 
--- of an initializer of the wrong form
+-- an initializer of the wrong form
 pub form_is_wrong : (c : Context) (literals : Literals) (storage : Storage) (at : Place) (ty : Shape) (written : RawInitial)
     → has_form c.table.list storage ty written ≡ false
     → initial_typed c literals storage at ty written ≡ Fault (least code_of.Initializer (initial_fault c literals storage at ty written)) at

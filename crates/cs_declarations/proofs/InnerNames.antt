@@ -6,7 +6,7 @@ use Rattle.std.specs.Cmp.Lexicographic.{pointwise}
 use Rattle.cs_scopes.specs.Meanings.{Declaration}
 use Rattle.cs_scopes.specs.Scopes.{newest}
 
--- what is there comes first
+-- the first of two options, if it is there
 there_first : {A : Type 0} (o p : Option A) → is_some o ≡ true → option_or o p ≡ o
 there_first None p h = absurd (cc)
 there_first (Some a) p h = refl

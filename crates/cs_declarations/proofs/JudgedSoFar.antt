@@ -72,7 +72,7 @@ module _ (c : Context) (storage : Storage) (at : Place) (ty : Shape) (v : Held) 
   pub judged_none : part_types c.table.list ty ≡ None → part_judged c storage at ty (initial v) ≡ Fine (Parts NoPart)
   judged_none parts = judged_list None parts ∙ lift_is (λ all. Fine (Parts all)) _ NoPart (no_types c storage at (initial_list list.items))
 
--- items that are judged, or the least code of those that are wrong, before others
+-- items that are converted, or the least code of those that are wrong, before others
 abbrev pub joined : Place → Option TypeCode → List Held → Verdict Initials → Verdict Initials
 joined at None list (Fine others) = Fine (before list others)
 joined at None list (Fault code place) = Fault code at
@@ -94,7 +94,7 @@ fault_joins at (Some wrong) list code place (Fine others) = ap (λ x. Fault x at
 fault_joins at (Some wrong) list code place (Fault other there) =
     ap (λ x. Fault x at) (sym (lesser-assoc wrong code other) ∙ ap (λ x. lesser x other) (lesser-comm wrong code))
 
--- nothing before items
+-- no items before others
 none_before : (at : Place) (first : Verdict Initial) (others : Verdict Initials)
     → joined at None [] (before_others at first others) ≡ before_others at first others
 none_before at (Fine first) (Fine others) = refl
@@ -148,7 +148,7 @@ module _ (c : Context) (storage : Storage) (at : Place) (types : List Shape) (nu
         ∙ fault_joins at wrong list code place _)
         ∙ next
 
--- what is reported after the loop
+-- the result after the loop
 pub reported_wrong : (at : Place) (wrong : Option TypeCode) (list : List Held) (whole : Verdict Initials) (code : TypeCode)
     → whole ≡ joined at wrong list (Fine NoPart) → wrong ≡ Some code → whole ≡ Fault code at
 reported_wrong at wrong list whole code h e = h ∙ ap (λ w. joined at w list (Fine NoPart)) e

@@ -20,12 +20,12 @@ use Rattle.cs_declarations.specs.Initializers.{Storage, InFile, InFunction, is_a
 use Rattle.cs_folding.specs.Addresses.{is_number, is_address}
 use Rattle.cs_declarations.specs.Initializers.{item_judged}
 
--- a number by an option, and the same after a function of it
+-- a mapped option is there exactly if the option is
 mapped_some : {A B : Type 0} (f : A → B) (o : Option A) → is_some (option_map f o) ≡ is_some o
 mapped_some f None = refl
 mapped_some f (Some a) = refl
 
--- what a verdict gives
+-- equal results have equal values
 same_value : (other v w : Typed) → Fine v ≡ Fine w → v ≡ w
 same_value other v w h = ap (λ (x : Verdict Typed). given x) h
   where
@@ -37,7 +37,7 @@ module _ (model : DataModel) where
   abbrev may_hold : Typed → Bool
   may_hold e = is_number model e || is_address model e
 
-  -- an integer in another type
+  -- an integer converted to another type
   convert_holds : (at : Place) (t : IntType) (e : Typed) → may_hold (Of at (integer t) (Convert e)) ≡ may_hold e
   convert_holds at t e = ap (λ b. b || is_address model e) (mapped_some _ (number_in model true e))
 
@@ -62,7 +62,7 @@ module _ (model : DataModel) where
   null_at_holds : (at : Place) (t : Shape) (e : Typed) → is_null model e ≡ true → may_hold (null_at at t) ≡ may_hold e
   null_at_holds at t e h = sym (null_holds e h)
 
-  -- a pointer as another one
+  -- a pointer converted to another one
   pointer_holds : (at p : Place) (t s : Shape) (form : Form)
       → may_hold (Of at (pointer t) (Convert (Of p (pointer s) form))) ≡ may_hold (Of p (pointer s) form)
   pointer_holds at p t s form = refl
@@ -114,13 +114,13 @@ module _ (model : DataModel) where
   converted_holds at void (Of p ty form) w h = absurd cc
   converted_holds at (array element count) (Of p ty form) w h = absurd cc
 
--- a value that comes to a type may be held just where the converted one may
+-- a value is accepted as a constant exactly if the converted one is
 pub conversions_keep : (model : DataModel) (storage : Storage) (at : Place) (ty : Shape) (v w : Typed) → converted model at v ty (type_of v) ≡ Fine w
     → is_admitted model storage w ≡ is_admitted model storage v
 conversions_keep model InFunction at ty v w h = refl
 conversions_keep model InFile at ty v w h = converted_holds model at ty v w h
 
--- what the `=` says of a value: its conversion first, then whether an object there may hold it
+-- the type error at the `=` for a value: of its conversion first, then whether an object of this storage may hold it
 module _ (model : DataModel) (storage : Storage) (at : Place) (ty : Shape) (v : Typed) where
   abbrev held : Verdict Typed → Option TypeCode
   held converted = code_in (lift (value_held model storage at) converted)

@@ -1,4 +1,4 @@
--- Words without a body, counted among all words: for the integer type that words name.
+-- Specifiers without a body, counted among all specifiers: for the integer type that they name.
 use Rattle.std.proofs.Common.{◌≡◌, ℕ, ◌+◌, cond, List, [], ◌∷◌, refl, ap, ◌∙◌, count_by, arith}
 use Rattle.std.specs.List.{fold}
 use Rattle.cs_ast.specs.declared.raw.declaration.SpecWord as words
@@ -8,7 +8,7 @@ use Rattle.cs_ast.specs.declared.raw.written_type.TypeWord.{TypeWord}
 use Rattle.cs_scopes.specs.TypeNames.{times, is_word}
 use Rattle.cs_declarations.specs.Bodies.{plain_words, is_kind}
 
--- one more where the word is of the kind
+-- one more, if the specifier is of this kind
 abbrev with_word : IntegerWord → ℕ → SpecWord → ℕ
 with_word kind n w = n + cond (is_kind kind w) 1 0
 

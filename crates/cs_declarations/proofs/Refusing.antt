@@ -13,13 +13,13 @@ pub refused : {A B : Type 0} (view : A → B) (verdict : Verdict B) (result : Re
     → IsRefused verdict r → Answers view verdict result
 refused view verdict result r e h = subst (Answers view verdict) (sym e) h
 
--- what holds anyway
+-- what holds in any case
 pub unless_memory : {A P : Type 0} (result : Result A TypeRefusal) → P → UnlessMemory result P
 unless_memory (Ok value) p = p
 unless_memory (Err (Code code place)) p = p
 unless_memory (Err Memory) p = tt
 
--- what held of the function whose refusal is passed on
+-- what holds for a function holds for one that returns its error
 pub passed_on : {A B : Type 0} (P : Type 0) (first : Result A TypeRefusal) (result : Result B TypeRefusal) (r : TypeRefusal) → first ≡ Err r
     → result ≡ Err r
     → UnlessMemory first P → UnlessMemory result P

@@ -1,4 +1,4 @@
--- Lists of results, of which a part is read: for the sizes in bounds.
+-- Lists of results that are partly read: for the sizes in bounds.
 use Rattle.std.proofs.Common.{◌≡◌, ℕ, ℤ, ◌+◌, ◌<◌, List, [], ◌∷◌, ◌++◌, Option, Some, None, length, drop, get_or, refl, sym, ap}
 use Rattle.std.proofs.Common.{◌∙◌, append_assoc, rules}
 use Rattle.std.specs.Option.{option_or}
@@ -13,7 +13,7 @@ use Rattle.cs_scopes.specs.Verdicts.{Verdict, Fine, Fault, lift, lift2, IsRefuse
 use Rattle.cs_scopes.proofs.Lifting.{lift-fault}
 use Rattle.cs_declarations.specs.Sizes.{size_said, size_or_one, sizes_said, fault_in, refused_bound, all_said}
 
--- what is said after others
+-- results after others
 abbrev pub following : {A : Type 0} → List A → Verdict (List A) → Verdict (List A)
 following before rest = lift (λ others. Fine (before ++ others)) rest
 

@@ -42,7 +42,7 @@ TypeGoesOn k t = GoesOn k t.1
 abbrev CountGoesOn : Environment → Counting → Type 0
 CountGoesOn k so_far = GoesOn k so_far.known
 
--- ---- words without a body
+-- ---- specifiers without a body
 
 pub word_type-GoesOn : (k : Environment) (at_tag : Option Place) (at : Place) (all : List TypeWord) (w : Option TypeWord) → IsSound k
     → IfFine (word_type k at_tag at all w) (TypeGoesOn k)
@@ -112,7 +112,7 @@ group_declared-IsRead k ds before v laying typed = IfFine-lift (group_declared d
 IsRead-trans : (k between : Environment) (b : Body) → GoesOn k between → IsRead between b → IsRead k b
 IsRead-trans k between b g h = (GoesOn-trans k between b.known g h.0, h.1)
 
--- further members after some that were read
+-- more members after those that were read
 further : (k : Environment) (read : Body) (v : Verdict Body) → GoesOn k read.known → IfFine v (IsRead read.known) → IfFine v (IsRead k)
 further k read (Fine b) g h = IsRead-trans k read.known b g h
 further k read (Fault code at) g h = tt
@@ -150,7 +150,7 @@ mutual
       (row_type-GoesOn _ row k at_tag (first_name declarators.items) (plain_row row) sound))
       (λ read h. further k read (members_read read.known others read.laying) h.0 (members_read-IsRead _ others read.known read.laying h.0.sound h.1))
 
--- what words in a list name
+-- the type that a list of specifiers names
 pub words_type-GoesOn : (k : Environment) (at_tag : Option Place) (at : Place) (all : List TypeWord) (ws : List SpecWord) → IsSound k
     → IfFine (words_type k at_tag at all ws) (TypeGoesOn k)
 words_type-GoesOn k at_tag at all [] sound = word_type-GoesOn k at_tag at all (whole_word all) sound
@@ -162,7 +162,7 @@ words_type-GoesOn k at_tag at all (words.TheVariants.Struct' name shape row ∷ 
 words_type-GoesOn k at_tag at all (words.TheVariants.Enum name constants comma ∷ others) sound =
     enum_body-GoesOn k (tag_place at at_tag) name constants.items sound
 
--- the type of what stands before declarators
+-- the type of the specifiers before declarators
 pub specs_type-GoesOn : (k : Environment) (at : Place) (s : RawSpecs) → IsSound k → IfFine (specs_type k at s) (TypeGoesOn k)
 specs_type-GoesOn k at s sound = words_type-GoesOn k s.tag at (plain_words s.words.items) s.words.items sound
 
@@ -189,7 +189,7 @@ struct_body-GoesOn k at name groups sound =
     body-GoesOn k at name (λ inner. members_of_list inner groups nothing_laid) sound
     (λ o is_opened. members_of_list-IsRead o.known groups nothing_laid is_opened.sound (nothing_laid-IsLaying (model_of o.known) (table_of o.known)))
 
--- what a function that gives this type leaves
+-- after a function that returns this type
 pub specs_type-leaves : (k : Environment) (at : Place) (s : RawSpecs) (r : Result CType TypeRefusal) (after : Held)
     → AnswersWith typing (specs_type k at s) r after → IsSound k → OnOk r (IsSound (environment_of after))
 specs_type-leaves k at s r after reported sound =

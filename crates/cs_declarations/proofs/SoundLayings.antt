@@ -24,7 +24,7 @@ use Rattle.cs_declarations.proofs.FineVerdicts.{IfFine, IfFine-lift, IfFine-lift
 use Rattle.cs_declarations.proofs.GrownTables.{Grows, layouts-Grows, AllSmall-Grows}
 use Rattle.cs_declarations.proofs.TypeSizes.{HasLayout, bytes_in-HasLayout}
 
--- members so far lie side by side, and need the bytes and the alignment that the laying says
+-- the members so far are side by side, with the bytes and the alignment that the laying has
 pub record IsLaying (model : DataModel) (table : List StructType) (l : Laying) : Type 0 where
   pub layouts : List Layout
   pub laid : member_layouts (layout_of model table) l.members ≡ Some layouts
@@ -45,7 +45,7 @@ nothing_laid-IsLaying model table = record {
   few = lit≤ tt;
 }
 
--- so they do in a table that grew
+-- the same in a table that grew
 pub IsLaying-Grows : (model : DataModel) (before after : List StructType) → Grows before after → (l : Laying) → IsLaying model before l
     → IsLaying model after l
 IsLaying-Grows model before after grows l h = record {

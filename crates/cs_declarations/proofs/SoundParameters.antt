@@ -58,7 +58,7 @@ module _ (k : Environment) (p : RawParameter) (before : Head) where
   with_parameter-GoesOn : (between : Environment) (found : Passed) → GoesOn k between → IfFine (with_parameter p before between found) (HeadGoesOn k)
   with_parameter-GoesOn between found g = naming-GoesOn k between p.name (length before.variables) found.ty g
 
-  -- a parameter after whose words stands a type
+  -- a parameter once the type of its specifiers is known
   abbrev at_type : Typing → Verdict Head
   at_type found =
       lift (with_parameter p before found.1)
@@ -89,7 +89,7 @@ parameters_typed-GoesOn k parameter_lists.Void sound = GoesOn-same k sound
 parameters_typed-GoesOn k (parameter_lists.List list) sound =
     parameters_after-GoesOn k list.items (no_parameter k) (GoesOn-same k sound)
 
--- ---- what they leave, where all is fine
+-- ---- what is known after them, without a type error
 
 pub typedefs_laid : (k after : Environment) (base : Shape) (ds : List RawDeclarator) → typedefs_added base ds k ≡ Fine after → IsSound k → IsSound after
 typedefs_laid k after base ds reported sound = (IfFine-at (typedefs_added base ds k) (GoesOn k) after reported (typedefs_added-GoesOn k base ds sound)).sound

@@ -31,7 +31,7 @@ use Rattle.cs_declarations.proofs.TypeSizes.{bytes_in-HasLayout}
 
 -- ---- structs after a part of a file
 
--- they are sound and grew out of those before, and the same bodies are being read
+-- they are sound, extend those before, and the same bodies are being read
 pub record Following (k : Environment) (model : DataModel) (table : List StructType) (tags : List Tag) (reading : List ℕ) : Type 0 where
   pub sound : AreSound model table tags reading
   pub grows : Grows (table_of k) table
@@ -59,13 +59,13 @@ GoesOn-trans k between after g h = record {
   same_reading = h.same_reading ∙ g.same_reading;
 }
 
--- members so far stay laid
+-- the members so far keep their offsets
 pub IsLaying-GoesOn : (k after : Environment) → GoesOn k after → (l : Laying) → IsLaying (model_of k) (table_of k) l
     → IsLaying (model_of after) (table_of after) l
 IsLaying-GoesOn k after g l h =
     subst (λ (model : DataModel). IsLaying model (table_of after) l) (sym g.same_model) (IsLaying-Grows (model_of k) (table_of k) (table_of after) g.grows l h)
 
--- where no struct is known
+-- no structs
 pub none-AreSound : (model : DataModel) → AreSound model [] [] []
 none-AreSound model = record {
   laid_out = λ number laid ms stands has. absurd (cc);
@@ -73,7 +73,7 @@ none-AreSound model = record {
   begun = All-nil (IsOpen []);
 }
 
--- a type that objects may have keeps its small sizes
+-- the type of an object keeps its bound on sizes
 pub object-Fits : (k after : Environment) → IsSound k → GoesOn k after
     → (shape : Shape) (bytes : ℕ) → bytes_in (model_of k) (table_of k) shape ≡ Some bytes → Fits (model_of after) (table_of after) shape
 object-Fits k after sound g shape bytes e =
@@ -90,7 +90,7 @@ IfSome-cond : {A : Type 0} (b : Bool) (x : A) (o : Option A) (P : A → Type 0) 
 IfSome-cond true x o P h g = h
 IfSome-cond false x o P h g = g
 
--- what a tag stands for
+-- the meaning of a tag
 pub tagged-IsOfTable : (table : List StructType) (name : List ℕ) (tags : List Tag) → All (λ (t : Tag). IsOfTable table t.meaning) tags
     → IfSome (tagged name tags) (IsOfTable table)
 tagged-IsOfTable table name [] h = tt
@@ -147,7 +147,7 @@ module _ (k : Environment) (name : List ℕ) (sound : IsSound k) where
   pub with_tagged_struct-GoesOn : GoesOn k (with_tagged_struct name k)
   with_tagged_struct-GoesOn = with_tag-GoesOn k (with_struct name k) name (tag.Struct (length (table_of k))) last_in with_struct-GoesOn
 
--- the struct that a tag names where no body stands after it
+-- the struct that a tag without a body names
 pub struct_named-GoesOn : (at : Place) (name : List ℕ) (k : Environment) (meaning : Option TagMeaning) → IsSound k
     → IfFine (struct_named at name k meaning) (λ (t : Typing). GoesOn k t.1)
 struct_named-GoesOn at name k (Some (tag.Struct number)) sound = GoesOn-same k sound
@@ -156,7 +156,7 @@ struct_named-GoesOn at name k None sound = with_tagged_struct-GoesOn k name soun
 
 -- ---- a struct whose body begins
 
--- it has no members yet, and is not among those whose bodies are being read
+-- it has no members yet, and isn't among those whose bodies are being read
 pub record IsOpened (k : Environment) (o : Opening) : Type 0 where
   pub sound : IsSound o.known
   pub grows : Grows (table_of k) (table_of o.known)
@@ -178,7 +178,7 @@ opened-IsOpened k between number g is_open apart = record {
   apart = apart;
 }
 
--- a new struct is apart from those that are being read
+-- a new struct isn't among those that are being read
 new_apart : (k : Environment) → IsSound k → All (λ number. number ≢ length (table_of k)) k.reading
 new_apart k sound = All-weaker (IsOpen (table_of k)) (λ number. number ≢ length (table_of k)) (λ number h. λ e. (let w = h.within in absurd (omega arith)))
     k.reading sound.begun
@@ -193,7 +193,7 @@ new_open table name = record {
     past_end [] = refl
     past_end (x ∷ xs) = past_end xs
 
--- so is one that is found not to be among them
+-- nor is one that isn't found among them
 among-apart : (number : ℕ) (reading : List ℕ) → is_among number reading ≡ false → All (λ other. other ≢ number) reading
 among-apart number [] h = All-nil (λ other. other ≢ number)
 among-apart number (r ∷ rs) h =
@@ -236,7 +236,7 @@ All-front P (y ∷ ys) x h =
     let rest = All-front P ys x (All-tail P y (ys ++ x ∷ []) h) in
     (All-cons P y ys (All-head P y (ys ++ x ∷ []) h) rest.0, rest.1)
 
--- a struct's size is not much more than what its members need
+-- padding makes a struct only a little larger than its members
 padded-few : (size align : ℕ) → size ≤ 2 ^ 20 → align ≤ 8 → round_up size align ≤ 2 ^ 40
 padded-few size align few low =
     let most : round_up size align ≤ size + (align - 1) = omega arith in
@@ -267,7 +267,7 @@ module _ (k : Environment) (o : Opening) (is_opened : IsOpened k o) (name : Opti
     empty = others_keep (model_of b.known) (table_of b.known) o.number reads.1.within reads.1.empty complete b.laying.members refl number apart ∙ h.empty;
   }
 
-  -- the structs are laid out after it
+  -- the structs have layouts after it
   pub struct_read-GoesOn : IfFine (struct_read o k.reading name b) (λ (t : Typing). GoesOn k t.1)
   struct_read-GoesOn =
       let model = model_of b.known in

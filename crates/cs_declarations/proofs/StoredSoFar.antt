@@ -1,4 +1,4 @@
--- How many scalars items store, before those of the remaining items: for how many an initializer stores.
+-- How many scalars items store, before those of the remaining items: for the number that an initializer stores.
 use Rattle.std.proofs.Common.{◌≡◌, ℕ, suc, ◌+◌, ◌<◌, ◌≤◌, arith, ◌⊎◌, inl, inr, List, [], ◌∷◌, drop, length, Bool, true}
 use Rattle.std.proofs.Common.{false, Option, Some, None, refl, sym, ap, ◌∙◌, Vec, Global}
 use Rattle.std.proofs.Math.ListN.{drop_of_length-le}
@@ -27,7 +27,7 @@ few_cases n = by_test (nat_le n 4096) refl where
   by_test true e = inl (leb-true n 4096 e, few-within n (leb-true n 4096 e))
   by_test false e = inr (leb-false n 4096 e, few-past n (leb-false n 4096 e))
 
--- a sum that is given is itself few
+-- a sum that is returned is within the bound
 pub few_is : (n m : ℕ) → few n ≡ Some m → (n ≤ 4096) × (n ≡ m)
 few_is n m e = elim (few_cases n) [
   | inl c ↦ (c.0, (let same : Some n ≡ Some m = sym c.1 ∙ e in cc))
@@ -40,7 +40,7 @@ few_passed n e = elim (few_cases n) [
   | inr c ↦ c.0
 ]
 
--- what goes on where the sum ends
+-- sums that agree within the bound, and exceed it together
 pub few_same : (kept sum : ℕ) → (sum ≤ 4096 → kept ≡ sum) → (4096 < sum → 4096 < kept) → few kept ≡ few sum
 few_same kept sum small large = elim (few_cases sum) [
   | inl c ↦ ap few (small c.0)
@@ -61,7 +61,7 @@ part_past all n (Some m) h = elim (few_cases (n + m)) [
   | inr c ↦ ap (together (Some all)) c.1
 ]
 
--- nothing before sums
+-- zero before sums
 none_before : (a b : Option ℕ) → together (Some 0) (together a b) ≡ together a b
 none_before None b = refl
 none_before (Some n) None = refl
@@ -77,7 +77,7 @@ nothing_yet table (ty ∷ types) [] = refl
 nothing_yet table [] (first ∷ others) = refl
 nothing_yet table (ty ∷ types) (first ∷ others) = none_before (stored table ty first) (list_stored table types others)
 
--- no part takes an item
+-- an item without a part to store to stores nothing
 no_types : (table : List StructType) (items : List RawInitial) → list_stored table [] items ≡ Some 0
 no_types table [] = refl
 no_types table (first ∷ others) = refl
@@ -105,7 +105,7 @@ pub stored-none : (table : List StructType) (ty : Shape) (v : RawInitial) (list 
     → v ≡ first_value.TheVariants.List list comma → stored table ty v ≡ Some 0
 stored-none table ty v list comma parts is = stored-List table ty None v list comma parts is ∙ no_types table list.items
 
--- all is counted
+-- the count is complete
 counted : (all : ℕ) (left whole : Option ℕ) → all ≤ 4096 → left ≡ Some 0 → together (Some all) left ≡ whole → whole ≡ Some all
 counted all left whole h e so_far = sym so_far ∙ ap (together (Some all)) e ∙ ap few (let f : all + 0 ≡ all = omega arith in f) ∙ few-within all h
 

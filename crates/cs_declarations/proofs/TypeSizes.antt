@@ -13,7 +13,7 @@ use Rattle.cs_types.proofs.StructTables.{complete-IsComplete}
 use Rattle.cs_scopes.specs.Sizes.{limited, bytes_in}
 use Rattle.cs_declarations.specs.Bodies.{align_said, align_in}
 
--- a type has a layout of so many bytes, with the alignment of the rules, and no size in it is great
+-- the type has a layout of so many bytes, with an alignment by the rules, and the sizes in it are bounded
 pub record HasLayout (model : DataModel) (table : List StructType) (shape : Shape) (bytes : ℕ) : Type 0 where
   pub layout : Layout
   pub laid : layout_of model table shape ≡ Some layout

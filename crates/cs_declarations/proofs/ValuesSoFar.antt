@@ -30,7 +30,7 @@ use Rattle.cs_declarations.specs.Initializers.{items_read, list_read}
 use Rattle.cs_declarations.proofs.PartTypes.{types_from, types_past}
 use Rattle.cs_declarations.proofs.WrittenLists.{items_of}
 
--- an expression for something that is no array
+-- an expression for an object other than an array
 module _ (c : Context) (literals : Literals) (ty : Shape) (e : RawExpr)
     (plain : expression_read c literals ty e ≡ lift (value_read literals e.kind.value) (operand_of c literals (Some ty) e)) where
   pub operand_refused : (r : TypeRefusal) → IsRefused (operand_of c literals (Some ty) e) r → IsRefused (expression_read c literals ty e) r
@@ -57,7 +57,7 @@ pub before-all : (list : List Held) → before list NoPart ≡ initial_list list
 before-all [] = refl
 before-all (first ∷ list) = ap (Part (initial first)) (before-all list)
 
--- rules that say the same of each value
+-- rules that are equal for each value are equal after a result
 same_rule : {A B : Type 0} (f g : A → Verdict B) → ((a : A) → f a ≡ g a) → (v : Verdict A) → lift f v ≡ lift g v
 same_rule f g h (Fine value) = lift-fine f value ∙ h value ∙ sym (lift-fine g value)
 same_rule f g h (Fault code place) = lift-fault f code place ∙ sym (lift-fault g code place)
@@ -106,7 +106,7 @@ module _ (c : Context) (literals : Literals) (ty : Shape) (v : RawInitial) (list
   no_values parts = initial_read-List ∙ ap (λ p. lift parts_read (list_read c literals (types_or_none p) list.items)) parts
       ∙ lift_is parts_read _ (NoPart, literals) (no_types c literals list.items)
 
--- what is read further, before which values stand
+-- more values are read after those of a list
 regrouped : (list : List Held) (v : Held) (rest : Verdict Readings)
     → lift (following list) (lift (one_more (initial v)) rest) ≡ lift (following (list ++ v ∷ [])) rest
 regrouped list v (Fine r) =
@@ -120,7 +120,7 @@ none_yet : (v : Verdict Readings) → lift (following []) v ≡ v
 none_yet (Fine r) = lift-fine (following []) r
 none_yet (Fault code place) = lift-fault (following []) code place
 
--- the first part that is refused
+-- the first part with a type error
 stopped : {A : Type 0} (refused : Option (TypeCode × Place)) {code : TypeCode} {place : Place} (v w whole : Verdict A) → unless_stopped refused v ≡ whole
     → v ≡ Fault code place → unless_stopped (option_or refused (Some (code, place))) w ≡ whole
 stopped None v w whole so_far is = sym is ∙ so_far

@@ -1,4 +1,4 @@
--- Rules on written lists between braces by their items: for the forms and the values of initializers.
+-- Rules on initializer lists by their items: for the forms and the values of initializers.
 use Rattle.std.proofs.Common.{◌≡◌, ℕ, suc, ◌<◌, ◌≤◌, List, [], ◌∷◌, length, drop, get_or, drop-cons, Bool, true, false, refl, sym, ap}
 use Rattle.std.proofs.Common.{◌∙◌, Vec, Global, Some, None}
 use Rattle.std.proofs.Math.ListN.{drop_of_length-le}
@@ -12,7 +12,7 @@ use Rattle.cs_scopes.specs.Parts.{part_types}
 use Rattle.cs_declarations.proofs.PartTypes.{types_from, types_past}
 use mathlib.Core.Former.{Count}
 
--- the row of the items between braces
+-- the items of an initializer list as a row
 abbrev pub items_of : RawInitial → (n : Count) × first_value.Row_of-RawInitial n
 items_of (first_value.TheVariants.List' shape row comma) = (_, row)
 items_of _ = (_, first_value.end_of-RawInitial)
@@ -43,14 +43,14 @@ has_form-List table storage ty types v list comma parts is =
     ap (has_form table storage ty) is ∙ ap (λ p. have_forms table storage p row.1) parts ∙ sym (forms-row table storage types row.0 row.1)
     ∙ ap (list_has_forms table storage types) (first_value.items_hidden-the_row-RawInitial-0 list)
 
--- an item at its place, before those after it
+-- an item at its index, before those after it
 pub item_there : {A : Type 0} (items : List A) (i : ℕ) (item : A) → i < length items → item ≡ get_or items i item
     → drop i items ≡ item ∷ drop (suc i) items
 item_there items i item within read = drop-cons items i item within ∙ ap (λ x. x ∷ drop (suc i) items) (sym read)
 
 module _ (table : List StructType) (storage : Storage) (types : List Shape) (items : List RawInitial) (i : ℕ) (item : RawInitial)
     (there : drop i items ≡ item ∷ drop (suc i) items) where
-  -- an item of a part's form
+  -- an item of the form that its part requires
   pub item_forms : (ty : Shape) → slice_get types i ≡ Some ty
       → list_has_forms table storage (drop i types) (drop i items)
       ≡ (has_form table storage ty item && list_has_forms table storage (drop (suc i) types) (drop (suc i) items))
@@ -61,7 +61,7 @@ module _ (table : List StructType) (storage : Storage) (types : List Shape) (ite
   pub item_too_many : slice_get types i ≡ None → list_has_forms table storage (drop i types) (drop i items) ≡ false
   item_too_many part = ap (λ ts. list_has_forms table storage ts (drop i items)) (types_past types i part) ∙ ap (list_has_forms table storage []) there
 
--- no item is left
+-- no items remain
 pub no_item_left : (table : List StructType) (storage : Storage) (types : List Shape) (items : List RawInitial) (i : ℕ) → length items ≤ i
     → list_has_forms table storage (drop i types) (drop i items) ≡ true
 no_item_left table storage types items i h = ap (list_has_forms table storage (drop i types)) (drop_of_length-le items h) ∙ no_items (drop i types) where

@@ -1,4 +1,4 @@
--- A run depends only on the cells of the inputs that it looks up: with other inputs that yield the same there, it is the same.
+-- A run depends only on the cells that its inputs determine where it reads them: with other inputs that determine the same cells it is the same.
 use Rattle.std.proofs.Common.{◌≡◌, ℤ, Bool, true, false, List, [], ◌∷◌, ◌++◌, if◌then◌else◌, refl, sym, ap, ◌∙◌, subst}
 use Rattle.std.proofs.lemmas.List.{append-nil, append_assoc}
 use Rattle.cs_inputs.specs.declared.path.Path.{Path}
@@ -23,7 +23,7 @@ use Rattle.cs_event_runs.specs.ByEvents.{RunsTo, ends, shows, silently}
 use Rattle.cs_event_runs.specs.Settings.{log_in, GiveAlike, Agree, with_inputs}
 use Rattle.cs_event_runs.proofs.EventLaws.{ends_by_events, events_by_end}
 
--- what agrees on a longer list does on its beginning, and at its last item
+-- if inputs agree on a longer list, they agree on its beginning, and on its last element
 beginning : (model : DataModel) (one other : Path → ℤ) (lookups more : List Lookup) → Agree model one other (lookups ++ more)
     → Agree model one other lookups
 beginning model one other [] more agree = tt
@@ -34,7 +34,7 @@ at_last : (model : DataModel) (one other : Path → ℤ) (lookups : List Lookup)
 at_last model one other [] lookup agree = agree.0
 at_last model one other (first ∷ lookups) lookup agree = at_last model one other lookups lookup agree.1
 
--- inputs that give alike give one cell
+-- inputs that determine the same for a lookup determine the same cell
 one_cell : (model : DataModel) (one other : Path → ℤ) (path : Path) (kind : InputKind) → GiveAlike model one other (record { path = path; kind = kind })
     → input_cell model path kind (one path) ≡ input_cell model path kind (other path)
 one_cell model one other path (Integer ty) alike = alike
@@ -43,7 +43,7 @@ one_cell model one other path Allocation alike = refl
 one_cell model one other path Nothing alike = refl
 
 module _ {State : Type 0} (setting : Setting) where
-  -- what is looked up before what stands first go on from those of the log
+  -- the lookups before what comes first extend those of the log
   abbrev Reads_on : Log → First State → Type 0
   Reads_on log first = (more : List Lookup) × ((log_in first).read ≡ log.read ++ more)
 
@@ -77,14 +77,14 @@ module _ {State : Type 0} (setting : Setting) where
       both log (allows_event setting log) _ _ (none_more log (Shown (accessed at object offset) act (with_access log at object offset)) refl)
       (none_more log (Ended (Over Events at) log) refl)
 
-  -- inputs that agree on the paths up to what stands first agree on those of the log
+  -- inputs that agree on the paths up to what comes first agree on those of the log
   agree_before : (other : Path → ℤ) (log : Log) (act : Act State) → Agree setting.model setting.inputs other (log_in (first_of setting log act)).read
       → Agree setting.model setting.inputs other log.read
   agree_before other log act agree =
       let more = reads_on log act in
       beginning setting.model setting.inputs other log.read more.0 (subst (Agree setting.model setting.inputs other) more.1 agree)
 
-  -- with inputs that agree there the same stands first
+  -- with inputs that agree there, the same comes first
   module _ (other : Path → ℤ) where
     allocates_alike : (room : Bool) (log : Log) (at : Place) (path : Path) (onward : Bool → Act State) →
         Agree setting.model setting.inputs other

@@ -1,4 +1,4 @@
--- Runs by their events are runs: they end alike, show the events of the log, and reach what is pending; and there is exactly one.
+-- Runs by their events are runs: they have the same outcomes, the events of the log, and the same pending operations; and they are unique.
 use Rattle.std.proofs.Common.{◌≡◌, List, [], ◌∷◌, ◌++◌, map, refl, sym, ap, ◌∙◌, subst}
 use Rattle.std.proofs.lemmas.List.{append-nil, append_assoc}
 use Rattle.cs_events.specs.declared.event.Event.{Event}
@@ -10,7 +10,7 @@ use Rattle.cs_event_runs.specs.ByEvents.{RunsTo, ends, shows, silently, Found}
 use Rattle.cs_event_runs.proofs.Firsts.{performs_first, Within, then_silent, then_ended, then_shown, within, HasEvents, adds_first}
 
 module _ {State : Type 0} (step : State → Act State) (setting : Setting) where
-  -- a run by its events ends so from a state whose next act is performed as what stands first
+  -- a run by its events ends the same way from a state whose next act has the result of what comes first
   ends_from : {first : First State} {steps : List Step} {outcome : Outcome} {end : Log} → RunsTo step setting first steps outcome end
       → (m : State) (log : Log) → perform setting log (step m) ≡ performed setting first → EndsFrom step setting m log outcome end
   ends_from (ends e) m log h = record { last = m; before = log; leads = stays refl refl; finishes = h ∙ ap (performed setting) e }
@@ -35,7 +35,7 @@ module _ {State : Type 0} (step : State → Act State) (setting : Setting) where
       let found = within_ends rest (sym (performs_first setting log left) ∙ e) in
       record { steps = one ∷ found.steps; runs = shows refl found.runs }
 
-  -- the events of an act that goes on, and those of the run from there
+  -- the events of an act that continues, and those of the run after it
   within_goes : {first : First State} {next : State} {later : Log} {outcome : Outcome} {end : Log} → Within setting first
       → performed setting first ≡ Continues next later → Found step setting (first_of setting later (step next)) outcome end
       → Found step setting first outcome end
@@ -55,12 +55,12 @@ module _ {State : Type 0} (step : State → Act State) (setting : Setting) where
   by_way {m = m} {log = log} (goes s way) finish =
       within_goes (within setting log (step m)) (sym (performs_first setting log (step m)) ∙ s) (by_way way finish)
 
-  -- a run that ends does so by its events
+  -- a run that ends has this outcome by its events
   pub events_by_end : {m : State} {log end : Log} {outcome : Outcome} → EndsFrom step setting m log outcome end
       → Found step setting (first_of setting log (step m)) outcome end
   events_by_end one = by_way one.leads one.finishes
 
-  -- the log at the end has the events that the steps show, after those before
+  -- the log at the end has the events of the steps, after those before
   shown_events : {first : First State} {steps : List Step} {outcome : Outcome} {end : Log} → RunsTo step setting first steps outcome end
       → (events : List Event) → HasEvents setting events first → end.events ≡ events ++ map (λ s. s.event) steps
   shown_events (ends e) events h = subst (HasEvents setting events) e h ∙ sym (append-nil events)
@@ -77,12 +77,12 @@ module _ {State : Type 0} (step : State → Act State) (setting : Setting) where
       → RunsTo step setting (first_of setting log (step m)) steps outcome end → end.events ≡ log.events ++ map (λ s. s.event) steps
   events_shown m log runs = shown_events runs log.events (adds_first setting log (step m))
 
-  -- where what stands first is equal, runs are
+  -- if what comes first is equal, the runs are
   from_equal : {first other : First State} {steps : List Step} {outcome : Outcome} {end : Log} → other ≡ first
       → RunsTo step setting other steps outcome end → RunsTo step setting first steps outcome end
   from_equal {steps = steps} {outcome = outcome} {end = end} e runs = subst (λ f. RunsTo step setting f steps outcome end) e runs
 
-  -- a run goes one way
+  -- a run is unique
   pub one_way : {first : First State} {steps other : List Step} {outcome outcome' : Outcome} {end end' : Log} → RunsTo step setting first steps outcome end
       → RunsTo step setting first other outcome' end' → (other ≡ steps) × (outcome' ≡ outcome) × (end' ≡ end)
   one_way (ends e) (ends e') = (refl, cc, cc)

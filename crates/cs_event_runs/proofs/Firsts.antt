@@ -1,4 +1,4 @@
--- What comes first in an act is what performing it reaches first: for runs by their events.
+-- What comes first in an act is what performing it passes first: for runs by their events.
 use Rattle.std.proofs.Common.{◌≡◌, ℕ, suc, ◌==◌, Bool, true, false, List, [], ◌∷◌, ◌++◌, Option, Some, None, length, if◌then◌else◌}
 use Rattle.std.proofs.Common.{refl, sym, ap, ◌∙◌, arith}
 use Rattle.std.proofs.lemmas.List.{length-append}
@@ -19,13 +19,13 @@ one_more : (log : Log) (here : Pending) (shown : Event) → suc (length log.even
 one_more log here shown = let a = length-append log.events (shown ∷ []) in omega arith
 
 module _ {State : Type 0} (setting : Setting) where
-  -- a function of what stands first goes into both ways of a test
+  -- a function of what comes first, applied to both branches of a test
   into_both : {A : Type 0} (f : First State → A) (room : Bool) (one other : First State)
       → (if room then f one else f other) ≡ f (if room then one else other)
   into_both f true one other = refl
   into_both f false one other = refl
 
-  -- performing an act is performing what stands first in it
+  -- performing an act is performing what comes first in it
   pub performs_first : (log : Log) (act : Act State) → perform setting log act ≡ performed setting (first_of setting log act)
   unfolding perform first_of
   performs_first log (Goes next) = refl
@@ -41,7 +41,7 @@ module _ {State : Type 0} (setting : Setting) where
   performs_first log (Reaches at object offset act) =
       into_both (performed setting) (allows_event setting log) (Shown (accessed at object offset) act (with_access log at object offset)) _
 
-  -- the events of an act end: what stands first is followed by so many events before a state or an end
+  -- the events of an act are finite: after what comes first, some more events lead to a state or an end
   pub data Within : First State → Type 0 where
     then_silent : {next : State} {log : Log} → Within (Silent next log)
     then_ended : {outcome : Outcome} {log : Log} → Within (Ended outcome log)
@@ -66,7 +66,7 @@ module _ {State : Type 0} (setting : Setting) where
   within log (Reaches at object offset act) =
       within_both (allows_event setting log) _ _ (then_shown (within (with_access log at object offset) act)) then_ended
 
-  -- the events with which what stands first has left off, from those of the log
+  -- the events so far, including that of what comes first
   abbrev pub HasEvents : List Event → First State → Type 0
   HasEvents events (Silent next log) = log.events ≡ events
   HasEvents events (Shown shown left log) = log.events ≡ events ++ shown.event ∷ []
@@ -87,7 +87,7 @@ module _ {State : Type 0} (setting : Setting) where
   adds_first log (Allocates at path onward) = has_both log.events (allows_event setting log) _ _ refl refl
   adds_first log (Reaches at object offset act) = has_both log.events (allows_event setting log) _ _ refl refl
 
-  -- what is pending at an event: what is shown first where that is the event, else what is pending in what is left
+  -- what is pending at an event: what comes first, if that is the event, or else what is pending in the rest
   abbrev pub first_pending : ℕ → First State → Option Pending
   first_pending event (Silent next log) = None
   first_pending event (Shown shown left log) =

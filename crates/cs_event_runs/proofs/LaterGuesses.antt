@@ -23,12 +23,12 @@ module _ (setting : Setting) (guesses : List Guess) (budgets : RunBudgets) (even
   abbrev Other : Setting
   Other = with_guesses guesses budgets setting
 
-  -- the budget lets the events up to this one pass
+  -- the budget allows the events up to this one
   has_yet : (log : Log) → suc (length log.events) ≤ event → allows_event Other log ≡ true
   has_yet log before = let b = alike.budget in grind (arith, nat_tests)
 
   module _ {State : Type 0} where
-    -- what stands first before the event stands first with the other guesses
+    -- what comes first before the event also comes first with the other guesses
     abbrev Kept : First State → First State → Type 0
     Kept (Silent next log) first = first ≡ Silent next log
     Kept (Shown shown left log) first = first ≡ Shown shown left log
@@ -60,7 +60,7 @@ module _ (setting : Setting) (guesses : List Guess) (budgets : RunBudgets) (even
     near_if true false shown one left left' log log' end outcome rest h same = cc
     near_if false other shown one left left' log log' end outcome rest h same = tt
 
-    -- an operation with a guess, or none, as what stands first
+    -- an operation with a guess, or without one, as what comes first
     with_guess : Log → Place → Operation → (ℤ → Act State) → Option ℤ → First State
     with_guess log at operation onward guess =
         let number = result_with setting.model operation (used (guess_range setting.model operation) guess) in
@@ -97,7 +97,7 @@ module _ (setting : Setting) (guesses : List Guess) (budgets : RunBudgets) (even
     near log (Reaches at object offset act) before = near_if (allows_event setting log) (allows_event Other log) _ _ _ _ _ _ log _ _ (has_yet log before) refl
 
     module _ (step : State → Act State) where
-      -- the run with the other guesses passes the same steps, and then shows one at which the same is pending
+      -- the run with the other guesses passes the same steps, and then shows one with the same pending operation
       pub record ShowsToo (first : First State) (steps : List Step) (pending : Pending) : Type 0 where
         pub one : Step
         pub shows : ShowsAfter step Other first steps one
@@ -123,7 +123,7 @@ module _ (setting : Setting) (guesses : List Guess) (budgets : RunBudgets) (even
           let it = shows_too rest between (step next) refl (omega arith) in
           record { one = it.one; shows = unseen {one = it.one} same it.shows; pends = it.pends }
 
-      -- later guesses change nothing of what is pending at the event
+      -- later guesses don't change what is pending at the event
       pub pending_before_guesses : (start : State) (pending : Pending) → IsPending step setting start event pending
           → IsPending step Other start event pending
       pending_before_guesses start pending one =

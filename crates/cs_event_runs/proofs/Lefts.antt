@@ -1,4 +1,4 @@
--- The rest of an act after some answers: answers are given one after another, and the number of a run's first event is its answer.
+-- The rest of an act after some answers: answers follow one another, and the answer to the first event of a run is its number.
 use Rattle.std.proofs.Common.{◌≡◌, ℤ, Bool, true, false, List, [], ◌∷◌, ◌++◌, if◌then◌else◌, refl, ap, ◌∙◌}
 use Rattle.cs_inputs.specs.declared.path.Path.{Path}
 use Rattle.cs_events.specs.declared.input.InputKind.{InputKind}
@@ -9,7 +9,7 @@ use Rattle.cs_events.specs.Runs.{Setting, Log, with_read, with_touch, allows_eve
 use Rattle.cs_event_runs.specs.Left.{left_of}
 use Rattle.cs_event_runs.specs.First.{First, Silent, Shown, Ended, first_of}
 
--- the number of a truth says it
+-- the number of a truth value represents it
 true_as_said : (b : Bool) → is_true (truth_number b) ≡ b
 true_as_said true = refl
 true_as_said false = refl
@@ -30,7 +30,7 @@ module _ {State : Type 0} where
   left_after cells (answer ∷ answers) more (Allocates at path onward) = left_after cells answers more (onward (is_true answer))
   left_after cells (answer ∷ answers) more (Reaches at object offset act) = left_after cells answers more act
 
-  -- where what stands first is answered by its number, the same is left of the act and of what it leaves
+  -- with the number of its first event as the answer, the rest of an act is the rest that the run has
   abbrev Answered : Setting → Act State → First State → Type 0
   Answered setting act (Silent next log) = left_of (read_cell setting) [] act ≡ Goes next
   Answered setting act (Shown shown left log) = (answers : List ℤ)
@@ -42,7 +42,7 @@ module _ {State : Type 0} where
   either setting act true one other a b = a
   either setting act false one other a b = b
 
-  -- an act from which reads and touches were gone through has the same left
+  -- reads and touches don't change the rest of an act
   same_left : (setting : Setting) (one other : Act State) (first : First State)
       → ((answers : List ℤ) → left_of (read_cell setting) answers one ≡ left_of (read_cell setting) answers other) → Answered setting other first
       → Answered setting one first

@@ -1,5 +1,5 @@
--- Listing results as guesses changes only labels: if each operation yields the same number, the run is the same except for
--- what its events show.
+-- Listing results as guesses changes only labels: if each operation continues with the same number, the run is the same except for
+-- the labels of its events.
 use Rattle.std.proofs.Common.{◌≡◌, suc, nat_lt, ℤ, Bool, true, false, List, [], ◌∷◌, ◌++◌, length, if◌then◌else◌, refl, sym, ap}
 use Rattle.std.proofs.Common.{◌∙◌, subst, arith}
 use Rattle.std.proofs.lemmas.List.{length-append}
@@ -24,7 +24,7 @@ use Rattle.cs_event_runs.specs.Settings.{with_guesses, LeadsAlike, LeadAlike, La
 use Rattle.cs_event_runs.proofs.Firsts.{HasEvents, adds_first}
 use Rattle.cs_event_runs.proofs.Pendings.{next_is}
 
--- logs stay alike
+-- logs remain alike
 one_event_more : {log other : Log} (here : Pending) (event event' : Event) → LogsAlike log other
     → LogsAlike (with_event log here event) (with_event other here event')
 one_event_more {log = log} {other = other} here event event' alike =
@@ -48,19 +48,19 @@ module _ (setting : Setting) (guesses : List Guess) where
   abbrev Other : Setting
   Other = with_guesses guesses setting.budgets setting
 
-  -- as many events leave as much of the budget
+  -- with as many events, as much of the budget remains
   same_room : (log other : Log) → LogsAlike log other → allows_event Other other ≡ allows_event setting log
   same_room log other alike = ap (λ n. nat_lt n setting.budgets.events) alike.passed
 
   module _ {State : Type 0} where
-    -- what stands first is alike
+    -- what comes first is alike
     data FirstsAlike : First State → First State → Type 0 where
       silent_alike : {next : State} {log other : Log} → LogsAlike log other → FirstsAlike (Silent next log) (Silent next other)
       shown_alike : {one shown : Step} {left left' : Act State} {log other : Log} → LabelsDiffer one shown → left' ≡ left → LogsAlike log other
           → FirstsAlike (Shown one left log) (Shown shown left' other)
       ended_alike : {outcome : Outcome} {log other : Log} → LogsAlike log other → FirstsAlike (Ended outcome log) (Ended outcome other)
 
-    -- the step that stands first leads on with its number also with the guesses
+    -- the step that comes first continues with its number under the guesses too
     abbrev FirstLeads : First State → Type 0
     FirstLeads (Silent next log) = Unit {0}
     FirstLeads (Shown shown left log) = LeadsAlike setting guesses (length log.events) shown
@@ -113,7 +113,7 @@ module _ (setting : Setting) (guesses : List Guess) where
         (one_event_more (Accesses at object offset) (access_event at offset) (access_event at offset) alike))
         (ended_alike alike) leads
 
-    -- what is alike to a state, an event or an end
+    -- a silent step, an event or an end that is alike
     record SilentToo (next : State) (log : Log) (first : First State) : Type 0 where
       other : Log
       is : first ≡ Silent next other
@@ -165,7 +165,7 @@ module _ (setting : Setting) (guesses : List Guess) where
         record { other = o; is = ap (λ x. Ended x o) same; logs = subst (λ x. LogsAlike x o) same_log logs }
 
     module _ (step : State → Act State) where
-      -- the run with the guesses ends alike, with steps that differ at most in what they show
+      -- the run with the guesses has the same outcome, with steps that differ at most in their labels
       pub record EndsAlike (first : First State) (steps : List Step) (outcome : Outcome) (end : Log) : Type 0 where
         pub others : List Step
         pub other : Log
@@ -193,7 +193,7 @@ module _ (setting : Setting) (guesses : List Guess) where
           (subst (λ l. LeadAlike setting guesses (suc (length l)) steps) (sym has) leads) in
           record { others = more.others; other = more.other; runs = silently it.is more.runs; labels = more.labels; logs = more.logs }
 
-      -- listing results as guesses changes labels alone
+      -- listing results as guesses changes only labels
       pub labels_alone : (m : State) (log : Log) {steps : List Step} {outcome : Outcome} {end : Log}
           → RunsTo step setting (first_of setting log (step m)) steps outcome end → LeadAlike setting guesses (suc (length log.events)) steps
           → EndsAlike (first_of Other log (step m)) steps outcome end

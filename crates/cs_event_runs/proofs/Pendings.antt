@@ -1,4 +1,4 @@
--- What a run shows as its n-th step is what is pending at its n-th event, and conversely.
+-- The n-th step of a run is what is pending at its n-th event, and conversely.
 use Rattle.std.proofs.Common.{◌≡◌, ℕ, suc, ◌+◌, ◌<◌, ◌==◌, Bool, true, false, List, [], ◌∷◌, ◌++◌, Some, length}
 use Rattle.std.proofs.Common.{if◌then◌else◌, refl, sym, ap, ◌∙◌, subst, arith}
 use Rattle.std.proofs.lemmas.Bool.Decides.{nat_tests}
@@ -21,12 +21,12 @@ next_is log events shown e =
     omega arith
 
 module _ {State : Type 0} (step : State → Act State) (setting : Setting) where
-  -- by whether the shown event is the one
+  -- whether the shown event is this one
   shown_or_left : (event : ℕ) (shown : Step) (left : Act State) (log : Log) (b : Bool) → (length log.events == event) ≡ b
       → first_pending setting event (Shown shown left log) ≡ (if b then Some shown.pending else pending_in setting log event left)
   shown_or_left event shown left log b t = ap (λ b. if b then Some shown.pending else pending_in setting log event left) t
 
-  -- a shown event is pending at its number, and a later one in what is left
+  -- an event that comes first is pending at its number, and a later one in the rest
   now_pending : (event : ℕ) (shown : Step) (left : Act State) (log : Log) → length log.events ≡ event
       → first_pending setting event (Shown shown left log) ≡ Some shown.pending
   now_pending event shown left log e = shown_or_left event shown left log true (grind (arith, nat_tests))
@@ -35,7 +35,7 @@ module _ {State : Type 0} (step : State → Act State) (setting : Setting) where
       → first_pending setting event (Shown shown left log) ≡ first_pending setting event (first_of setting log left)
   then_pending event shown left log e = shown_or_left event shown left log false (grind (arith, nat_tests)) ∙ pends_first setting event log left
 
-  -- the next act performs as what stands first, and later events are pending in both alike
+  -- the next act has the same result as what comes first, and the same later events are pending in both
   record Continued (m : State) (log : Log) (events : List Event) (first : First State) : Type 0 where
     performs : perform setting log (step m) ≡ performed setting first
     pends : (event : ℕ) → length events < event → pending_in setting log event (step m) ≡ first_pending setting event first
@@ -72,7 +72,7 @@ module _ {State : Type 0} (step : State → Act State) (setting : Setting) where
       subst (λ n. PendingFrom step setting m log n one.pending) (ap (λ l. suc (length l + length steps)) same)
       (record { last = it.last; before = it.before; leads = goes (h.performs ∙ ap (performed setting) e) it.leads; pends = it.pends })
 
-  -- what is shown after some steps is pending at the event after them
+  -- a step that is shown after some others is pending at the event after them
   pub shown_is_pending : (start : State) {before : List Step} {one : Step} → ShowsAfter step setting (first_of setting empty (step start)) before one
       → IsPending step setting start (suc (length before)) one.pending
   shown_is_pending start {before = before} {one = one} shown =
@@ -96,7 +96,7 @@ module _ {State : Type 0} (step : State → Act State) (setting : Setting) where
       subst (λ s. ShowsAfter step setting first (s ∷ before) one) same (later e (shown_in_run rest before after one tail))
   shown_in_run (silently e rest) before after one is = unseen e (shown_in_run rest before after one is)
 
-  -- what is shown first is pending, or what is pending in what is left
+  -- what is pending comes first, or is pending in the rest
   by_test : (one : Step) (left : Act State) (log : Log) (events : List Event) (event : ℕ) (pending : Pending) → length log.events ≡ suc (length events)
       → first_pending setting event (Shown one left log) ≡ Some pending
       → (first_pending setting event (first_of setting log left) ≡ Some pending
@@ -120,7 +120,7 @@ module _ {State : Type 0} (step : State → Act State) (setting : Setting) where
       by_test one left log events event pending (next_is log events one.event has) h
       (λ g. within_pends rest log.events (adds_first setting log left) event pending g) (length log.events == event) refl
 
-  -- what is shown after an act that goes on is shown after its events and others
+  -- a step after an act that continues is shown after the act's events and others
   within_goes : {first : First State} {next : State} {after : Log} {event : ℕ} {pending : Pending} → Within setting first
       → (events : List Event) → HasEvents setting events first → performed setting first ≡ Continues next after
       → ShownPending step setting (first_of setting after (step next)) (length after.events) event pending
@@ -147,7 +147,7 @@ module _ {State : Type 0} (step : State → Act State) (setting : Setting) where
   by_way {m = m} {log = log} (goes s way) h =
       within_goes (within setting log (step m)) log.events (adds_first setting log (step m)) (sym (performs_first setting log (step m)) ∙ s) (by_way way h)
 
-  -- what is pending at an event is shown after as many steps as come before it
+  -- what is pending at an event is shown after as many steps as there are events before
   pub pending_is_shown : (start : State) {event : ℕ} {pending : Pending} → IsPending step setting start event pending
       → ShownPending step setting (first_of setting empty (step start)) 0 event pending
   pending_is_shown start one = by_way one.leads one.pends

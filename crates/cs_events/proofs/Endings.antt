@@ -1,5 +1,5 @@
--- Every run ends of a machine whose silent steps lessen the turns, or the weight without more turns: by induction on the events left, then
--- the turns, then the weight.
+-- Every run ends if each silent step of the machine lowers the number of turns, or keeps it and lowers the weight: by the remaining events,
+-- then the turns, then the weight.
 use Rattle.std.proofs.Common.{◌≡◌, ℕ, zero, suc, ◌+◌, ◌<◌, ◌≤◌, ◌⊎◌, Bool, true, false, [], ◌∷◌, ◌++◌, length}
 use Rattle.std.proofs.Common.{if◌then◌else◌, inl, inr, refl, ap, ◌∙◌, arith}
 use Rattle.std.proofs.lemmas.Bool.Decides.{nat_tests}
@@ -17,7 +17,7 @@ use Rattle.cs_events.specs.Growth.{GoesOn, log_of}
 use Rattle.cs_events.specs.Silence.{Owes, owes_next, stops, reads, asks, allocates, reaches, touches, IsBelow, Lessens, Ending}
 use Rattle.cs_events.proofs.LogGrowth.{act_adds}
 
--- how many events a log has
+-- the number of events of a log
 abbrev passed : Log → ℕ
 passed log = length log.events
 
@@ -25,7 +25,7 @@ passed log = length log.events
 abbrev IsLouder : Setting → Log → Log → Type 0
 IsLouder setting log later = (passed log < setting.budgets.events) × (passed log < passed later)
 
--- a log that goes on from one with one more event has more
+-- a log that extends one with an additional event has more events
 more_events : (log later : Log) (here : Pending) (event : Event) → GoesOn (with_event log here event) later → passed log < passed later
 more_events log later here event more =
     let a : length later.events ≡ length ((log.events ++ event ∷ []) ++ more.events.0) = ap length more.events.1 in
@@ -35,7 +35,7 @@ more_events log later here event more =
     omega arith
 
 module _ {State : Type 0} where
-  -- what was performed: it has passed an event, or is of a kind
+  -- the result of an act: it has passed an event, or the next state has a property
   abbrev Went : Setting → (State → Type 0) → Log → Performed State → Type 0
   Went setting Next log (Continues next later) = IsLouder setting log later ⊎ (Next next × (passed later ≡ passed log))
   Went setting Next log (Finishes outcome later) = Unit {0}
@@ -47,7 +47,7 @@ module _ {State : Type 0} where
   louder setting Next log here event (Continues next later) room more = inl (room, more_events log later here event more)
   louder setting Next log here event (Finishes outcome later) room more = tt
 
-  -- after an event, or at the end of the run where the budget was used up
+  -- after an event, or at the end of the run if the budget was used up
   after_event : (setting : Setting) (Next : State → Type 0) (log : Log) (here : Pending) (event : Event) (outcome : Outcome) (end : Log)
       (done : Performed State) (room : Bool)
       → allows_event setting log ≡ room → GoesOn (with_event log here event) (log_of done)
@@ -55,7 +55,7 @@ module _ {State : Type 0} where
   after_event setting Next log here event outcome end done true h more = louder setting Next log here event done (grind (arith, nat_tests)) more
   after_event setting Next log here event outcome end done false h more = tt
 
-  -- the same seen from a log with as many events
+  -- the same for a log with as many events
   from_as_many : (setting : Setting) (Next : State → Type 0) (log before : Log) (done : Performed State) → passed before ≡ passed log
       → Went setting Next before done → Went setting Next log done
   from_as_many setting Next log before (Continues next later) e (inl loud) =
@@ -65,7 +65,7 @@ module _ {State : Type 0} where
   from_as_many setting Next log before (Continues next later) e (inr quiet) = inr (quiet.0, quiet.1 ∙ e)
   from_as_many setting Next log before (Finishes outcome later) e w = tt
 
-  -- what an act has led to, that owes a kind of state where it passes no event
+  -- the result of an act that owes a property of the next state if it passes no event
   went : (setting : Setting) (Next : State → Type 0) (log : Log) {act : Act State} → Owes Next act → Went setting Next log (perform setting log act)
   unfolding perform
   went setting Next log (owes_next next) = inr (next, refl)
@@ -86,11 +86,11 @@ module _ {State : Type 0} where
       from_as_many setting Next log (with_touch log touch) _ refl (went setting Next (with_touch log touch) owed)
 
   module _ (step : State → Act State) (setting : Setting) (turns weight : State → ℕ) where
-    -- so many events are left at the most
+    -- at most so many events remain
     abbrev HasLeft : ℕ → Log → Type 0
     HasLeft events log = setting.budgets.events ≤ passed log + events
 
-    -- a run that ends after its next act ends
+    -- a run ends if it ends after its next act
     one_more : (m next : State) (log later : Log) → perform setting log (step m) ≡ Continues next later → Ending step setting next later
         → Ending step setting m log
     one_more m next log later e ending = record {
@@ -99,7 +99,7 @@ module _ {State : Type 0} where
       ended = record { last = ending.ended.last; before = ending.ended.before; leads = goes e ending.ended.leads; finishes = ending.ended.finishes };
     }
 
-    -- the next act is performed, and what it leads to ends
+    -- a run ends if the results of its next act do
     act_ends : (m : State) (log : Log) (done : Performed State) → perform setting log (step m) ≡ done
         → Went setting (IsBelow turns weight (turns m) (weight m)) log done
         → ((next : State) (later : Log) → IsLouder setting log later → Ending step setting next later)
@@ -110,7 +110,7 @@ module _ {State : Type 0} where
     act_ends m log (Continues next later) e (inl l) loud quiet = one_more m next log later e (loud next later l)
     act_ends m log (Continues next later) e (inr q) loud quiet = one_more m next log later e (quiet next later q.1 q.0)
 
-    -- a run ends from a state below, where those with fewer turns end, and those with as many and less weight
+    -- a run ends from a lower state, if runs with fewer turns end, and so do those with as many turns and less weight
     below_ends : (events some much : ℕ) → ((next : State) (later : Log) → HasLeft events later → turns next < some → Ending step setting next later)
         → ((next : State) (later : Log) → HasLeft events later → turns next ≤ some → weight next < much → Ending step setting next later)
         → (m : State) (log : Log) → HasLeft events log → turns m ≤ some → weight m < suc much
@@ -121,7 +121,7 @@ module _ {State : Type 0} where
         let lighter_yet = less.1 in
         lighter next later (omega arith) (omega arith) (omega arith)
 
-    -- by the weight, where runs with fewer turns or fewer events left end
+    -- by the weight, if runs with fewer turns or fewer remaining events end
     by_weight : Lessens step turns weight → (events some : ℕ)
         → ((next : State) (log later : Log) → HasLeft events log → IsLouder setting log later → Ending step setting next later)
         → ((next : State) (later : Log) → HasLeft events later → turns next < some → Ending step setting next later)
@@ -133,7 +133,7 @@ module _ {State : Type 0} where
         (below_ends events some much fewer (λ next later left' few' light'. by_weight lessens events some loud fewer much next later left' few' light') m log
         left few light)
 
-    -- by the turns, where runs with fewer events left end
+    -- by the turns, if runs with fewer remaining events end
     by_turns : Lessens step turns weight → (events : ℕ)
         → ((next : State) (log later : Log) → HasLeft events log → IsLouder setting log later → Ending step setting next later)
         → (some : ℕ) (m : State) (log : Log) → HasLeft events log → turns m ≤ some → Ending step setting m log
@@ -143,7 +143,7 @@ module _ {State : Type 0} where
         by_weight lessens events (suc some) loud (λ next later left' less. by_turns lessens events loud some next later left' (omega arith)) (suc (weight m)) m
         log left few (omega arith)
 
-    -- by the events that are left
+    -- by the remaining events
     by_events : Lessens step turns weight → (events : ℕ) (m : State) (log : Log) → HasLeft events log → Ending step setting m log
     by_events lessens zero m log left =
         by_turns lessens zero (λ next log' later left' loud. let room = loud.0 in absurd (omega arith)) (turns m) m log left (omega arith)

@@ -1,4 +1,4 @@
--- Logs only grow: an act adds its events, lookups and touches at the end.
+-- Logs only grow: the events, lookups and touches of an act are added after those before.
 use Rattle.std.proofs.Common.{◌≡◌, Bool, true, false, List, [], ◌∷◌, ◌++◌, if◌then◌else◌, refl, sym, ap, ◌∙◌, subst}
 use Rattle.std.proofs.lemmas.List.{append-nil, append_assoc}
 use Rattle.cs_events.specs.declared.event.Event.{Event}
@@ -19,16 +19,16 @@ use Rattle.cs_events.specs.Growth.{GoesOn, log_of}
 nothing_more : {A : Type 0} (xs : List A) → (more : List A) × (xs ≡ xs ++ more)
 nothing_more xs = ([], sym (append-nil xs))
 
--- more is added to what was added
+-- additions one after another
 more_yet : {A : Type 0} (xs ys zs : List A) → (more : List A) × (ys ≡ xs ++ more) → (more : List A) × (zs ≡ ys ++ more)
     → (more : List A) × (zs ≡ xs ++ more)
 more_yet xs ys zs one two = (one.0 ++ two.0, two.1 ∙ ap (λ l. l ++ two.0) one.1 ∙ append_assoc xs one.0 two.0)
 
--- a log goes on from itself
+-- a log extends itself
 pub stays_so : (log : Log) → GoesOn log log
 stays_so log = record { events = nothing_more log.events; pending = nothing_more log.pending; read = nothing_more log.read; touches = nothing_more log.touches }
 
--- logs go on one from another
+-- extension of logs is transitive
 pub goes_on_yet : {log middle later : Log} → GoesOn log middle → GoesOn middle later → GoesOn log later
 goes_on_yet {log = log} {middle = middle} {later = later} one two = record {
   events = more_yet log.events middle.events later.events one.events two.events;
@@ -58,7 +58,7 @@ touch_more log touch = record {
 }
 
 module _ {State : Type 0} where
-  -- an event that is passed, or the end of the run where it can't be
+  -- an event that is passed, or the end of the run if the budget is used up
   if_allowed : (room : Bool) (log : Log) (outcome : Outcome) (done : Performed State) → GoesOn log (log_of done)
       → GoesOn log (log_of (if room then done else Finishes outcome log))
   if_allowed true log outcome done more = more
@@ -89,7 +89,7 @@ module _ {State : Type 0} where
     step_adds : (m : State) {log later : Log} (done : Performed State) → perform setting log (step m) ≡ done → log_of done ≡ later → GoesOn log later
     step_adds m {log = log} done e f = subst (GoesOn log) (ap log_of e ∙ f) (act_adds setting log (step m))
 
-    -- a run only adds to its log, on its way
+    -- a run only adds to its log, before its end
     pub way_adds : {m last : State} {log end : Log} → Leads step setting m log last end → GoesOn log end
     way_adds {log = log} (stays e f) = subst (GoesOn log) f (stays_so log)
     way_adds (goes {m = m} {next = next} {later = later} s way) = goes_on_yet (step_adds m (Continues next later) s refl) (way_adds way)

@@ -1,4 +1,4 @@
--- What a log has as pending at an event was pending there.
+-- A log records at each event what was pending there.
 use Rattle.std.proofs.Common.{◌≡◌, ℕ, zero, suc, ◌<◌, ◌≤◌, ◌≢◌, nat_lt, Bool, true, false, List, [], ◌∷◌, ◌++◌, Option, Some}
 use Rattle.std.proofs.Common.{None, length, slice_get, if◌then◌else◌, inl, inr, refl, sym, ap, ◌∙◌, subst, arith}
 use Rattle.std.proofs.lemmas.Bool.Decides.{nat_tests}
@@ -16,7 +16,7 @@ use Rattle.cs_events.specs.Pending.{is_next, pending_in, IsPending}
 use Rattle.cs_events.specs.Growth.{GoesOn, log_of}
 use Rattle.cs_events.proofs.LogGrowth.{act_adds, way_adds, end_adds}
 
--- as many things were pending as there are events
+-- as many pending operations as events
 abbrev IsEven : Log → Type 0
 IsEven log = length log.pending ≡ length log.events
 
@@ -27,7 +27,7 @@ even_with log here event even =
     let b = length-append log.events (event ∷ []) in
     omega arith
 
--- an item at the end of a list, and what stands before what is added
+-- an element at the end of a list, and the elements before it
 last_item : {A : Type 0} (xs more : List A) (x : A) → slice_get ((xs ++ x ∷ []) ++ more) (length xs) ≡ Some x
 last_item [] more x = refl
 last_item (y ∷ ys) more x = last_item ys more x
@@ -37,17 +37,17 @@ earlier_item [] more n h = absurd (omega arith)
 earlier_item (y ∷ ys) more zero h = refl
 earlier_item (y ∷ ys) more (suc n) h = earlier_item ys more n (omega arith)
 
--- an item that was found has its place
+-- an index at which an element is found is below the length
 is_there : {A : Type 0} (xs : List A) (n : ℕ) (x : A) → slice_get xs n ≡ Some x → n < length xs
 is_there [] n x h = cc
 is_there (y ∷ ys) zero x h = omega arith
 is_there (y ∷ ys) (suc n) x h = let a = is_there ys n x h in omega arith
 
--- what was kept stays kept
+-- what was recorded remains
 kept_on : (log later : Log) (n : ℕ) → GoesOn log later → n < length log.pending → slice_get later.pending n ≡ slice_get log.pending n
 kept_on log later n more h = ap (λ l. slice_get l n) more.pending.1 ∙ earlier_item log.pending more.pending.0 n h
 
--- what is kept of the next event
+-- what is recorded for the next event
 kept_next : (log later : Log) (here : Pending) (event : Event) → IsEven log → GoesOn (with_event log here event) later
     → slice_get later.pending (length log.events) ≡ Some here
 kept_next log later here event even more =
@@ -60,7 +60,7 @@ module _ {State : Type 0} (setting : Setting) where
   even_if true log outcome done one other = other
   even_if false log outcome done one other = one
 
-  -- an act keeps what was pending at each of its events
+  -- an act records what was pending at each of its events
   act_even : (log : Log) (act : Act State) → IsEven log → IsEven (log_of (perform setting log act))
   unfolding perform
   act_even log (Goes next) even = even
@@ -78,7 +78,7 @@ module _ {State : Type 0} (setting : Setting) where
       (act_even (with_access log at object offset) act (even_with log (Accesses at object offset) _ even))
   act_even log (Touches touch act) even = act_even (with_touch log touch) act even
 
-  -- what is kept of an event that shows here, or of a later one
+  -- what is recorded for the event that is next here, or for a later one
   kept_after : (log end : Log) (here : Pending) (shown : Event) (rest : Option Pending) (outcome : Outcome) (done : Performed State) (n : ℕ) (room now : Bool)
       → is_next log (suc n) ≡ now → IsEven log → length end.events ≡ length log.events → length log.events ≤ n
       → n < length (log_of (if room then done else Finishes outcome end)).events → GoesOn (with_event log here shown) (log_of done)
@@ -132,7 +132,7 @@ module _ {State : Type 0} (setting : Setting) where
         → PendsFrom next later event pending → PendsFrom m log event pending
     next_pends s it = record { last = it.last; before = it.before; leads = goes s it.leads; pends = it.pends }
 
-    -- a step's events
+    -- the events of a step
     step_pends : (m : State) (log end : Log) (done : Performed State) (n : ℕ) (pending : Pending) → perform setting log (step m) ≡ done
         → log_of done ≡ end
         → IsEven log → length log.events ≤ n → n < length end.events → slice_get end.pending n ≡ Some pending → PendsFrom m log (suc n) pending
@@ -147,7 +147,7 @@ module _ {State : Type 0} (setting : Setting) where
         → IsEven end
     even_after m log end done e f even = subst IsEven (ap log_of e ∙ f) (act_even log (step m) even)
 
-    -- the event shows in the next step, or in what follows
+    -- the event is passed in the next step, or later
     soon_or_later : {m next : State} {log later : Log} (end : Log) (n : ℕ) (pending : Pending) → perform setting log (step m) ≡ Continues next later
         → IsEven log → GoesOn later end → length log.events ≤ n → (now : Bool) → nat_lt n (length later.events) ≡ now
         → slice_get end.pending n ≡ Some pending → (length later.events ≤ n → PendsFrom next later (suc n) pending)
@@ -180,7 +180,7 @@ module _ {State : Type 0} (setting : Setting) where
         (end_adds step setting (record { last = last; before = middle; leads = way; finishes = finish })) before (nat_lt n (length later.events)) refl h
         (λ still. end_pends n pending way finish (even_after m log later (Continues next later) s refl even) still after h)
 
-    -- a run keeps as many pending things as events
+    -- a run records as many pending operations as events
     way_even : {m last : State} {log end : Log} → Leads step setting m log last end → IsEven log → IsEven end
     way_even (stays e f) even = subst IsEven f even
     way_even {m = m} {log = log} (goes {next = next} {later = later} s way) even =
@@ -191,7 +191,7 @@ module _ {State : Type 0} (setting : Setting) where
     all_kept {log = log} (inr ended) =
         even_after ended.1.last ended.1.before log (Finishes ended.0 log) ended.1.finishes refl (way_even ended.1.leads refl)
 
-    -- what a run keeps at its n-th event was pending there
+    -- what a run records for its n-th event was pending there
     pub kept_is_pending : {start : State} {log : Log} (n : ℕ) (pending : Pending) → ComesTo step setting start log
         → slice_get log.pending n ≡ Some pending
         → IsPending step setting start (suc n) pending

@@ -1,4 +1,4 @@
--- At most one thing is pending at an event: a run reaches an event once.
+-- What is pending at an event is unique: a run comes to an event only once.
 use Rattle.std.proofs.Common.{◌≡◌, ℕ, suc, ◌+◌, ◌<◌, ◌≤◌, nat_le, ◌≢◌, Bool, true, false, [], ◌∷◌, ◌++◌, Option, Some}
 use Rattle.std.proofs.Common.{None, unwrap_or, length, if◌then◌else◌, refl, sym, ap, ◌∙◌, arith}
 use Rattle.std.proofs.lemmas.Bool.Decides.{nat_tests}
@@ -17,11 +17,11 @@ use Rattle.cs_events.specs.Growth.{GoesOn, log_of}
 use Rattle.cs_events.proofs.RunLaws.{moved}
 use Rattle.cs_events.proofs.LogGrowth.{act_adds, way_adds, end_adds}
 
--- how many events a log has
+-- the number of events of a log
 abbrev passed : Log → ℕ
 passed log = length log.events
 
--- a log that goes on from another has no fewer events
+-- a log that extends another has no fewer events
 as_many : (log later : Log) → GoesOn log later → passed log ≤ passed later
 as_many log later more =
     let a : length later.events ≡ length (log.events ++ more.events.0) = ap length more.events.1 in
@@ -32,7 +32,7 @@ as_many log later more =
 one_more : (log : Log) (here : Pending) (event : Event) → passed (with_event log here event) ≡ passed log + 1
 one_more log here event = length-append log.events (event ∷ [])
 
--- an event that is pending after another one, or is that one, wasn't passed before
+-- the shown event, and one that is pending after it, weren't passed before
 before_event : (event : ℕ) (log : Log) (shown : Event) (here pending : Pending) (rest : Option Pending) (room next : Bool) → is_next log event ≡ next
     → (rest ≡ Some pending → passed (with_event log here shown) < event) → (if room then (if next then Some here else rest) else None) ≡ Some pending
     → passed log < event
@@ -44,7 +44,7 @@ before_event event log shown here pending rest true false n following h =
 before_event event log shown here pending rest false next n following h = cc
 
 module _ {State : Type 0} (setting : Setting) (event : ℕ) where
-  -- what is pending wasn't passed
+  -- a pending event wasn't passed yet
   not_passed : (log : Log) (act : Act State) (pending : Pending) → pending_in setting log event act ≡ Some pending → passed log < event
   unfolding pending_in
   not_passed log (Goes next) pending h = cc
@@ -66,7 +66,7 @@ module _ {State : Type 0} (setting : Setting) (event : ℕ) where
       (λ g. not_passed (with_access log at object offset) act pending g) h
   not_passed log (Touches touch act) pending h = not_passed (with_touch log touch) act pending h
 
-  -- an event that was pending and lies after another one, or is that one, is passed
+  -- the shown event, and one that is pending after it, are passed
   following_event : (log : Log) (shown : Event) (here pending : Pending) (rest : Option Pending) (outcome : Outcome) (done : Performed State) (room now : Bool)
       → is_next log event ≡ now → passed log + 1 ≤ passed (log_of done) → (rest ≡ Some pending → event ≤ passed (log_of done))
       → (if room then (if now then Some here else rest) else None) ≡ Some pending
@@ -86,7 +86,7 @@ module _ {State : Type 0} (setting : Setting) (event : ℕ) where
       let b = one_more log' here shown in
       omega arith
 
-  -- what is pending is passed in the act
+  -- a pending event is passed in the act
   is_passed : (log : Log) (act : Act State) (pending : Pending) → pending_in setting log event act ≡ Some pending
       → event ≤ passed (log_of (perform setting log act))
   unfolding pending_in perform
@@ -115,7 +115,7 @@ module _ {State : Type 0} (setting : Setting) (event : ℕ) where
       (λ g. is_passed (with_access log at object offset) act pending g) h
   is_passed log (Touches touch act) pending h = is_passed (with_touch log touch) act pending h
 
-  -- an event that is passed after another one, or is that one, was pending
+  -- an event that is passed is the shown one, or was pending after it
   pending_after : (log : Log) (shown : Event) (here : Pending) (rest : Option Pending) (outcome : Outcome) (done : Performed State) (room now : Bool)
       → is_next log event ≡ now → passed log < event → event ≤ passed (log_of (if room then done else Finishes outcome log))
       → (passed (with_event log here shown) < event → event ≤ passed (log_of done) → (pending : Pending) × (rest ≡ Some pending))
@@ -127,7 +127,7 @@ module _ {State : Type 0} (setting : Setting) (event : ℕ) where
       following (omega arith) after
   pending_after log shown here rest outcome done false now n before after following = absurd (omega arith)
 
-  -- what an act passes was pending in it
+  -- an event that an act passes was pending in it
   was_pending : (log : Log) (act : Act State) → passed log < event → event ≤ passed (log_of (perform setting log act))
       → (pending : Pending) × (pending_in setting log event act ≡ Some pending)
   unfolding pending_in perform
@@ -164,12 +164,12 @@ module _ {State : Type 0} (setting : Setting) (event : ℕ) where
         let c = as_many later before (way_adds step setting way) in
         absurd (omega arith)
 
-    -- what is pending at the end of an empty way is pending at its beginning
+    -- what is pending at the end of an empty path is pending at its beginning
     at_start : (m last : State) (log before : Log) (pending : Pending) → m ≡ last → log ≡ before
         → pending_in setting before event (step last) ≡ Some pending → pending_in setting log event (step m) ≡ Some pending
     at_start m last log before pending e f h = (λ i. pending_in setting (f i) event (step (e i))) ∙ h
 
-    -- what is pending at the ends of two ways from one state is one thing
+    -- what is pending at the ends of two paths from one state is the same
     pending_at : {m last last' : State} {log before before' : Log} (one other : Pending) → Leads step setting m log last before
         → Leads step setting m log last' before' → pending_in setting before event (step last) ≡ Some one
         → pending_in setting before' event (step last') ≡ Some other → other ≡ one
@@ -188,7 +188,7 @@ module _ {State : Type 0} (setting : Setting) (event : ℕ) where
         let same_log : later' ≡ later = cc in
         pending_at one other way (moved step setting (sym same) (sym same_log) way') h g
 
-    -- what is pending at an event is one thing
+    -- what is pending at an event is unique
     pub one_pending : (start : State) (one other : Pending) → IsPending step setting start event one → IsPending step setting start event other
         → other ≡ one
     one_pending start one other p q = pending_at one other p.leads q.leads p.pends q.pends
@@ -201,7 +201,7 @@ module _ {State : Type 0} (setting : Setting) (event : ℕ) where
       pub leads : Leads step setting m log last before
       pub pends : pending_in setting before event (step last) ≡ Some pending
 
-    -- what a step passes was pending in it, whatever it led to
+    -- an event that a step passes was pending in it, whatever its result is
     pends_now : (m : State) (log end : Log) (done : Performed State) → perform setting log (step m) ≡ done → log_of done ≡ end → passed log < event
         → event ≤ passed end → Pends m log
     pends_now m log end done e f before after =
@@ -209,7 +209,7 @@ module _ {State : Type 0} (setting : Setting) (event : ℕ) where
         let it = was_pending log (step m) before (omega arith) in
         record { last = m; before = log; pending = it.0; leads = stays refl refl; pends = it.1 }
 
-    -- the event is passed at the next step, or further on
+    -- the event is passed in the next step, or later
     pends_soon : (m next : State) (log later : Log) → perform setting log (step m) ≡ Continues next later → passed log < event
         → (reached : Bool) → nat_le event (passed later) ≡ reached → (passed later < event → Pends next later) → Pends m log
     pends_soon m next log later e before true r rest = pends_now m log later (Continues next later) e refl before (grind (arith, nat_tests))
@@ -230,7 +230,7 @@ module _ {State : Type 0} (setting : Setting) (event : ℕ) where
         → event ≤ passed end → Pends m log
     ended_pends one before after = pends_before one.leads one.finishes before after
 
-    -- what is pending is passed where the run ends
+    -- a pending event is passed before the run ends
     passed_by_way : {m last : State} {log before end : Log} {outcome : Outcome} (pending : Pending) → pending_in setting log event (step m) ≡ Some pending
         → Leads step setting m log last before → perform setting before (step last) ≡ Finishes outcome end → event ≤ passed end
     passed_by_way {m = m} {log = log} {end = end} {outcome = outcome} pending h (stays e f) finish =

@@ -1,5 +1,5 @@
--- If related states answer one another, runs from them end alike and have the same pending: in the direction of the answer, and
--- conversely if every run ends.
+-- If states simulate the states related to them, runs from them have the same outcomes and the same pending operations: from the simulated run
+-- to the other one, and back if every run ends.
 use Rattle.std.proofs.Common.{◌≡◌, ℕ, Bool, true, false, Some, None, if◌then◌else◌, refl, sym, ap, ◌∙◌, subst}
 use Rattle.cs_events.specs.declared.outcome.Outcome.{Outcome}
 use Rattle.cs_events.specs.Operations.{is_true}
@@ -16,7 +16,7 @@ use Rattle.cs_events.proofs.RunLaws.{one_end, left_after}
 use Rattle.cs_events.proofs.PendingLaws.{passed_at_end, ended_pends, is_event, one_pending}
 
 module _ {S T : Type 0} (R : S → T → Type 0) (setting : Setting) where
-  -- what two acts lead to that do the same
+  -- the results of two acts that do the same
   data Alike : Performed S → Performed T → Type 0 where
     both_continue : {s : S} {t : T} {log : Log} → R s t → Alike (Continues s log) (Continues t log)
     both_finish : {outcome : Outcome} {log : Log} → Alike (Finishes outcome log) (Finishes outcome log)
@@ -41,7 +41,7 @@ module _ {S T : Type 0} (R : S → T → Type 0) (setting : Setting) where
       alike_if (allows_event setting log) _ log (performs_alike (with_access log at object offset) same)
   performs_alike log (both_touch {touch = touch} same) = performs_alike (with_touch log touch) same
 
-  -- acts that do the same have the same pending
+  -- acts that do the same have the same pending operations
   pends_alike : (event : ℕ) (log : Log) {a : Act S} {b : Act T} → Yields R a b → pending_in setting log event b ≡ pending_in setting log event a
   unfolding pending_in
   pends_alike event log (both_go related) = refl
@@ -58,7 +58,7 @@ module _ {S T : Type 0} (R : S → T → Type 0) (setting : Setting) where
       (pends_alike event (with_access log at object offset) same)
   pends_alike event log (both_touch {touch = touch} same) = pends_alike event (with_touch log touch) same
 
-  -- where one act continues or finishes, so does one that does the same
+  -- if one act continues or finishes, so does one that does the same
   continues_alike : {a : Performed S} {b : Performed T} {s : S} {log : Log} → Alike a b → a ≡ Continues s log
       → (t : T) × (b ≡ Continues t log) × R s t
   continues_alike {s = s} {log = log} (both_continue {s = next} {t = t} {log = later} related) e =
@@ -73,7 +73,7 @@ module _ {S T : Type 0} (R : S → T → Type 0) (setting : Setting) where
   finishes_alike both_finish e = cc
 
   module _ (step : S → Act S) (step' : T → Act T) where
-    -- the answering run comes to a state related to one where something is so of the next act, and there it is so of its own
+    -- the simulating run comes to a related state, whose next act has the property that the other's next act has
     record Comes (At : Log → Act T → Type 0) (t : T) (log : Log) (near : S) (end : Log) : Type 0 where
       last : T
       leads : Leads step' setting t log last end
@@ -82,7 +82,7 @@ module _ {S T : Type 0} (R : S → T → Type 0) (setting : Setting) where
 
     module _ (Of : Log → Act S → Type 0) (At : Log → Act T → Type 0) (over : (log : Log) (a : Act S) (b : Act T) → Yields R a b → Of log a
         → At log b) (moved_on : (log : Log) (next : S) → Of log (Goes next) → ⊥) where
-      -- after a silent step of the answering run
+      -- after a silent step of the simulating run
       following : {t next : T} {near : S} {log end : Log} → step' t ≡ Goes next → Comes At next log near end → Comes At t log near end
       unfolding perform
       following {t = t} {log = log} e come = record {
@@ -92,14 +92,14 @@ module _ {S T : Type 0} (R : S → T → Type 0) (setting : Setting) where
         related = come.related;
       }
 
-      -- where the run is already
+      -- if the run is there already
       here_now : {s : S} {t : T} {log : Log} → Of log (step s) → R s t → Answers R step step' s t → Comes At t log s log
       here_now {log = log} it related (alone {next = next} e r) = absurd (moved_on log next (subst (Of log) e it))
       here_now {s = s} {t = t} {log = log} it related (together yields) =
           record { last = t; leads = stays refl refl; here = over log (step s) (step' t) yields it; related = related }
       here_now it related (first e r rest) = following e (here_now it r rest)
 
-      -- where the run goes on from its next act
+      -- if the run continues from its next act
       goes_on : {s next near : S} {t : T} {log later end : Log} → perform setting log (step s) ≡ Continues next later
           → ((t' : T) → R next t' → Comes At t' later near end) → R s t → Answers R step step' s t → Comes At t log near end
       unfolding perform
@@ -114,7 +114,7 @@ module _ {S T : Type 0} (R : S → T → Type 0) (setting : Setting) where
           record { last = come.last; leads = goes reported.1 come.leads; here = come.here; related = come.related }
       goes_on e onward related (first q r rest) = following q (goes_on e onward r rest)
 
-      -- the answering run comes along
+      -- the simulating run follows
       comes_along : Simulates R step step' → {s near : S} {t : T} {log end : Log} → R s t → Leads step setting s log near end → Of end (step near)
           → Comes At t log near end
       comes_along simulates {s = s} {t = t} {log = log} {end = end} related (stays e f) it =
@@ -127,7 +127,7 @@ module _ {S T : Type 0} (R : S → T → Type 0) (setting : Setting) where
       pub other : EndsFrom step' setting t log outcome end
       pub related : R one.last other.last
 
-    -- the answering run ends in the same way, with the same log, and their last states are related
+    -- the simulating run has the same outcome and the same log, and their last states are related
     pub ends_too : Simulates R step step' → {s : S} {t : T} {log end : Log} {outcome : Outcome} → R s t
         → (one : EndsFrom step setting s log outcome end) → EndsTogether s t log outcome end one
     unfolding perform
@@ -136,7 +136,7 @@ module _ {S T : Type 0} (R : S → T → Type 0) (setting : Setting) where
         (λ log a b yields it. finishes_alike (performs_alike log yields) it) (λ log next it. cc) simulates related one.leads one.finishes in
         record { other = record { last = come.last; before = one.before; leads = come.leads; finishes = come.here }; related = come.related }
 
-    -- what is pending in a run is pending in the answering one
+    -- what is pending in a run is pending in the simulating one
     pub pends_too : Simulates R step step' → {s : S} {t : T} {event : ℕ} {pending : Pending} → R s t → IsPending step setting s event pending
         → IsPending step' setting t event pending
     unfolding pending_in
@@ -145,14 +145,14 @@ module _ {S T : Type 0} (R : S → T → Type 0) (setting : Setting) where
         (λ log a b yields it. pends_alike event log yields ∙ it) (λ log next it. cc) simulates related one.leads one.pends in
         record { last = come.last; before = one.before; leads = come.leads; pends = come.here }
 
-    -- where the run ends that is answered, it ends as the answering one does
+    -- if the simulated run ends, it ends as the simulating one does
     pub ends_back : Simulates R step step' → {s : S} {t : T} {log end : Log} {outcome : Outcome} → R s t → Ending step setting s log
         → EndsFrom step' setting t log outcome end → EndsFrom step setting s log outcome end
     ends_back simulates {s = s} {log = log} related ending other =
         let same = one_end step' setting (ends_too simulates related ending.ended).other other in
         subst (λ o. EndsFrom step setting s log o _) (sym same.0) (subst (λ l. EndsFrom step setting s log ending.outcome l) (sym same.1) ending.ended)
 
-    -- where the run ends that is answered, what is pending in the answering one is pending in it
+    -- if the simulated run ends, what is pending in the simulating one is pending in it
     pub pends_back : Simulates R step step' → {s : S} {t : T} {event : ℕ} {pending : Pending} → R s t → Ending step setting s empty
         → IsPending step' setting t event pending → IsPending step setting s event pending
     pends_back simulates {s = s} {t = t} {event = event} {pending = pending} related ending other =

@@ -40,14 +40,14 @@ module _ (model : DataModel) (at : Place) (ty : Shape) (types : List Shape) (e :
   argument_refused code place h = ap (λ x. before_others at x (converted_list model at types rest)) h ∙ ap (before_others at (Fault code place)) so_far
       ∙ refuses at place code refused made
 
--- the parameters from one on
+-- the types of the parameters from an index on
 types_from : (types : List CType) (k j : ℕ) (ty : CType) → j ≡ k + 1 → k < length types → ty ≡ get_or types k ty
     → map (λ (t : CType). shape_of t) (drop k types) ≡ shape_of ty ∷ map (λ (t : CType). shape_of t) (drop j types)
 types_from types k j ty is within read =
     ap (map (λ (t : CType). shape_of t)) (drop-cons types k ty within ∙ ap (λ x. x ∷ drop (suc k) types) (sym read)
     ∙ ap (λ i. ty ∷ drop i types) (sym (add-one k) ∙ sym is))
 
--- the last of the arguments that are left stands before those after it
+-- the last of the remaining arguments comes before those that are converted already
 pub one_less : (all left rest following : List Expr) (value : Expr) → all ≡ left ++ following → left ≡ rest ++ value ∷ []
     → all ≡ rest ++ (value ∷ following)
 one_less all left rest following value split is = split ∙ ap (λ xs. xs ++ following) is ∙ append_assoc rest (value ∷ []) following
@@ -73,7 +73,7 @@ module _ (model : DataModel) (at : Place) (types : List CType) (k j : ℕ) (ty :
       ∙ argument_refused model at (shape_of ty) (map (λ (t : CType). shape_of t) (drop j types)) (typed value) (typed_list following) refused
       (typed_list (reverse list)) so_far code place h
 
--- no argument is left
+-- no argument remains
 pub all_converted : (model : DataModel) (at : Place) (types : List CType) (k : ℕ) (all left following list : List Expr) (refused : Option TypeCode)
     → k ≡ 0 → left ≡ [] → all ≡ left ++ following
     → converted_list model at (map (λ (t : CType). shape_of t) (drop k types)) (typed_list following) ≡ outcome at refused (typed_list (reverse list))
@@ -83,7 +83,7 @@ all_converted model at types k all left following list refused none empty split 
     ∙ ap (λ i. converted_list model at (map (λ (t : CType). shape_of t) (drop i types)) (typed_list following)) (sym none)
     ∙ so_far
 
--- `free` takes one argument alone
+-- `free` has exactly one argument
 freed-two : (at : Place) (rest : List Expr) (e : Expr) → length rest ≢ 0 → freed at (typed_list (rest ++ e ∷ [])) ≡ Fault code_of.ArgumentCount at
 freed-two at [] e some = absurd (some refl)
 freed-two at (a ∷ []) e some = refl
@@ -93,6 +93,6 @@ pub freed-many : (at : Place) (all rest : List Expr) (e : Expr) → all ≡ rest
     → freed at (typed_list all) ≡ Fault code_of.ArgumentCount at
 freed-many at all rest e is some = ap (λ xs. freed at (typed_list xs)) is ∙ freed-two at rest e some
 
--- a test for none that fails
+-- a test for 0 that fails
 pub not_none : (n : ℕ) (b : Bool) → b ≡ (n == 0) → b ≡ false → n ≢ 0
 not_none n b e f z = let wrong : false ≡ true = sym f ∙ e ∙ ap (λ k. k == 0) z in absurd cc

@@ -10,6 +10,6 @@ by_test : (place many : ℕ) (b : Bool) → nat_lt place many ≡ b → place �
 by_test place many true e within = refl
 by_test place many false e within = omega (arith, within, ltb-false place many e)
 
--- the first place that passes, or the length where none does
+-- the first index that passes, or the length if none does
 pub place_or_length : {X : Type 0} (test : X → Bool) (xs : List X) → unwrap_or (position test xs) (length xs) ≡ position_or_len test xs
 place_or_length test xs = by_test (position_or_len test xs) (length xs) _ refl (prefix_len-le-length _ xs)

@@ -10,7 +10,7 @@ pub types_of-variables : (parameters : List Local) → map (λ (p : Local). shap
 types_of-variables [] = refl
 types_of-variables (first ∷ others) = ap (λ types. shape_of first.ty ∷ types) (types_of-variables others)
 
--- one list has a type more
+-- one list has one more type
 pub more_types : (types : List CType) (parameters : List Local) → 1 ≤ length types → length parameters ≡ 0
     → false ≡ same_types (map (λ (ty : CType). shape_of ty) types) (types_of (map variable parameters))
 more_types [] parameters some none = absurd (omega (arith, some))

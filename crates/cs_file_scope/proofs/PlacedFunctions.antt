@@ -1,4 +1,4 @@
--- The functions that have a place in a file's order, by two tables with the same defined functions: for the order of functions.
+-- The functions with an index in a file's order, by two tables with the same defined functions: for the order of functions.
 use Rattle.std.proofs.Common.{◌≡◌, ℕ, Bool, cond, List, [], ◌∷◌, ◌++◌, Some, None, refl, ap, ◌∙◌}
 use Rattle.std.specs.Prelude.{◌||◌, option_to_list}
 use Rattle.cs_ast.specs.declared.raw.external.RawExternalKind.{RawExternalKind}

@@ -1,4 +1,4 @@
--- An operator between two values refuses no later than by what it requires of the left one, whatever the right one is.
+-- If the left operand of an operator has an error, the operator's error comes no later, whatever the right operand is.
 use Rattle.std.proofs.Common.{◌≡◌, refl, Bool, true, false, if◌then◌else◌, ◌&&◌, List, Some, None}
 use Rattle.cs_types.specs.declared.data_model.DataModel.{DataModel}
 use Rattle.cs_types.specs.declared.structs.StructType.{StructType}
@@ -57,7 +57,7 @@ both_tested-led at l r form = by_test (is_scalar (type_of l)) (is_scalar (type_o
   by_test true false v = refl
   by_test false other v = (refl, refl)
 
--- a mismatch is at its place
+-- a mismatch is at its position
 at_mismatch : {A : Type 0} (at : Place) (v : Verdict A) → IsMismatch at v → IsAt at v
 at_mismatch at (Fine value) h = tt
 at_mismatch at (Fault code place) h = h.1
@@ -91,7 +91,7 @@ ordered-led model op at l r void s = (refl, refl)
 ordered-led model op at l r (array t n) s = (refl, refl)
 ordered-led model op at l r (struct n) s = (refl, refl)
 
--- a pointer that moves, by whether it points to a complete type
+-- a pointer that is moved, by whether it points to a complete type
 complete-led : (at : Place) (complete : Bool) (a : Typed)
     → IsLed (if complete then None else Some codes.IncompleteType) at (if complete then Fine a else Fault codes.IncompleteType at)
 complete-led at true a = tt

@@ -32,7 +32,7 @@ use Rattle.cs_first_faults.specs.Failures.{FailingPlace, least_of, failing, fail
 use Rattle.cs_first_faults.specs.Expressions.{argument_codes, or_call_codes, call_codes, callee_failures, size_codes}
 use Rattle.cs_first_faults.proofs.Firsts.{no_some, no_none, IsAt, lift_at, first-codes}
 
--- the least of codes, if there are any
+-- the least of some codes, if there are any
 abbrev pub least_among : List TypeCode → Option TypeCode
 least_among [] = None
 least_among (code ∷ others) = Some (least_of code others)
@@ -59,7 +59,7 @@ arguments-least c purpose literals at (ty ∷ types) (more_of-RawExpr place p k 
     ap (least_code (passing_fault c at ty value)) (arguments-least c purpose (literals_past value (literals_after literals k)) at types rest)
     ∙ passing c at ty value (argument_codes c purpose (literals_past value (literals_after literals k)) at types rest)
 
--- what a call is refused for when its parts are right is at its place
+-- an error of a call whose parts have none is at its position
 converted_list-at : (model : DataModel) (at : Place) (types : List Shape) (values : TypedList) → IsAt at (converted_list model at types values)
 converted_list-at model at [] values = tt
 converted_list-at model at (ty ∷ types) NoMore = tt

@@ -53,7 +53,7 @@ pub operand-first : (c : Context) (purpose : Purpose) (v : Verdict Typed) (failu
 unfolding operand_in
 operand-first c purpose v failures h = first-fails (operand c.table.list) (done c purpose v) _ (done-first c purpose v failures h)
 
--- ---- productions whose rules stand after their part
+-- ---- productions whose rules come after their part
 
 dot-first : (c : Context) (at name_at : Place) (name : List _) (v : Verdict Typed) (failures : List FailingPlace) → IsFirst v failures
     → IsFirst (lift (selected c.table.list at name_at name) v)
@@ -114,7 +114,7 @@ prefixed-first : (c : Context) (purpose : Purpose) (op : PrefixOp) (at : Place) 
 unfolding operand_in
 prefixed-first c purpose op at v failures h = prefix-first c op at (done c purpose v) _ (done-first c purpose v failures h)
 
--- ---- parts after one another
+-- ---- parts one after another
 
 comma-first : (at : Place) (v w : Verdict Typed) (one other : List FailingPlace) → IsFirst v one → IsFirst w other
     → IsFirst (lift2 (followed at) v w) (one ++ other)

@@ -57,7 +57,7 @@ completed-first d (Some body) result f head (callee.Malloc, filed) = refl
 completed-first d (Some body) result f head (callee.Calloc, filed) = refl
 completed-first d (Some body) result f head (callee.Free, filed) = refl
 
--- a function with a head that has types, whose parameters may have a name twice
+-- a function whose head is typed, but may have a parameter name twice
 routed-first : (d : RawFunction) (body : Option RawBody) (result : Shape) (f : Filed) (head : Head) (twice : Option Place) (v : Verdict Routed)
     (failures : List FailingPlace) → IsAt d.place v → IsFirst (unless_twice twice head) failures
     → IsFirst (lift (completed d body result head.variables (declared_inside f.known head.known)) (lift (declared_once twice) v))

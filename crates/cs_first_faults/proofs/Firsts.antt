@@ -12,7 +12,7 @@ use Rattle.cs_expressions.specs.Stores.{weighed, led}
 use Rattle.cs_consts.specs.Typing.{between}
 use Rattle.cs_first_faults.specs.Failures.{FailingPlace, first_failure, failing, failing_at, codes_of, if_typed, if_both_typed, fails, IsFirst}
 
--- nothing is not something
+-- `None` is never `Some`
 pub no_some : {A B : Type 0} (a : A) → None ≡ Some a → B
 no_some a e = absurd cc
 
@@ -23,7 +23,7 @@ pub first-failing : {A : Type 0} (v : Verdict A) → IsFirst v (failing v)
 first-failing (Fine value) = refl
 first-failing (Fault code place) = refl
 
--- what is fine has no failing place
+-- a result without an error has no failing position
 pub none_where_fine : {A : Type 0} (a : A) (failures : List FailingPlace) → IsFirst (Fine a) failures → failures ≡ []
 none_where_fine a [] h = refl
 none_where_fine a (f ∷ fs) h = no_some _ h
@@ -36,7 +36,7 @@ pub first-then-nothing : {A : Type 0} (v : Verdict A) (failures : List FailingPl
 first-then-nothing v [] h = h
 first-then-nothing v (f ∷ fs) h = h
 
--- the faults of a verdict are at a place
+-- an error, if the result is one, is at this position
 abbrev pub IsAt : {A : Type 0} → Place → Verdict A → Type 0
 IsAt at (Fine value) = Unit {0}
 IsAt at (Fault code place) = place ≡ at
@@ -50,13 +50,13 @@ unfolding lift
 lift_at at rule (Fine a) h k = k a
 lift_at at rule (Fault code place) h k = h
 
--- such a verdict by its code, where nothing after it fails
+-- such a result has its code there, if nothing after it fails
 pub first-codes : {A : Type 0} (at : Place) (v : Verdict A) (following : List FailingPlace) → IsAt at v → first_failure following ≡ None
     → IsFirst v (failing_at at (codes_of v) ++ following)
 first-codes at (Fine value) following is none = sym none
 first-codes at (Fault code place) following is none = ap (λ p. Some (code, p)) is
 
--- a rule on a part: what it says stands after the part
+-- a rule on a part: its errors come after those of the part
 pub first-fails : {A B : Type 0} (rule : A → Verdict B) (v : Verdict A) (failures : List FailingPlace) → IsFirst v failures
     → IsFirst (lift rule v) (failures ++ fails rule v)
 unfolding lift
@@ -65,7 +65,7 @@ first-fails rule (Fine a) (f ∷ fs) h = no_some _ h
 first-fails rule (Fault code place) [] h = no_none _ h
 first-fails rule (Fault code place) (f ∷ fs) h = h
 
--- the same of what comes after it in two parts
+-- the same for a rule with two parts after it
 pub first-after : {A B : Type 0} (rule : A → Verdict B) (v : Verdict A) (failures : List FailingPlace) (one following : Verdict A → List FailingPlace)
     → IsFirst v failures → ((a : A) → IsFirst (rule a) (one (Fine a) ++ following (Fine a)))
     → IsFirst (lift rule v) ((failures ++ one v) ++ following v)
@@ -75,7 +75,7 @@ first-after rule (Fine a) (f ∷ fs) one following h each = no_some _ h
 first-after rule (Fault code place) [] one following h each = no_none _ h
 first-after rule (Fault code place) (f ∷ fs) one following h each = h
 
--- the same of a rule that stands before the part
+-- the same for a rule that comes before the part
 pub first-before : {A B : Type 0} (rule : A → Verdict B) (v : Verdict A) (failures : List FailingPlace) (one before : Verdict A → List FailingPlace)
     → IsFirst v failures → ((code : TypeCode) (place : Place) → before (Fault code place) ≡ [])
     → ((a : A) → IsFirst (rule a) (before (Fine a) ++ one (Fine a)))
@@ -94,7 +94,7 @@ first-ahead rule (Fine a) [] h = first-failing-last (rule a)
 first-ahead rule (Fine a) (f ∷ fs) h = no_some _ h
 first-ahead rule (Fault code place) failures h = h
 
--- a place at which a rule on what stands before it may fail, and one on what stands on both of its sides
+-- a position with a rule on what comes before it, and one on both sides
 pub first-stored : (at : Place) (fault : Option TypeCode) (rule : Typed → Verdict Typed) (right : Verdict Typed) (following : List FailingPlace)
     → IsFirst right following → ((v : Typed) → IsAt at (rule v))
     → IsFirst (lift (λ v. weighed at fault (rule v)) (led at fault right))
@@ -108,13 +108,13 @@ first-stored at (Some code) rule (Fine v) following h is = weighs (rule v) where
   weighs (Fine e) = refl
   weighs (Fault other place) = refl
 
--- a verdict at a place at which a code may hold that it refuses no later
+-- a result at a position with a possible code: its error comes no later
 abbrev pub IsLed : {A : Type 0} → Option TypeCode → Place → Verdict A → Type 0
 IsLed None at v = IsAt at v
 IsLed (Some code) at (Fine value) = ⊥
 IsLed (Some code) at (Fault other place) = (lesser code other ≡ other) × (place ≡ at)
 
--- an operator between two parts: what it asks of the left one alone, and what it asks of both
+-- an operator on two operands: what it requires of the left one only, and of both
 pub first-asked : (at : Place) (asks : Shape → Option TypeCode) (rule : Typed → Typed
     → Verdict Typed) (v w : Verdict Typed) (one other : List FailingPlace)
     → IsFirst v one → IsFirst w other → ((l r : Typed) → IsLed (asks (type_of l)) at (rule l r))
@@ -136,7 +136,7 @@ first-asked at asks rule (Fine l) w [] other h k refuses = by_fault (asks (type_
     refused (Fine e) is = absurd is
     refused (Fault c place) is = λ i. Some (sym is.0 i, is.1 i)
 
--- two parts after one another, which nothing else refuses
+-- two parts one after another, with no other errors
 pub first-both : {A B C : Type 0} (rule : A → B → C) (v : Verdict A) (w : Verdict B) (one other : List FailingPlace)
     → IsFirst v one → IsFirst w other → IsFirst (lift2 (λ a b. Fine (rule a b)) v w) (one ++ other)
 unfolding lift2
@@ -146,7 +146,7 @@ first-both rule (Fine a) w (f ∷ fs) other h k = no_some _ h
 first-both rule (Fault code place) w [] other h k = no_none _ h
 first-both rule (Fault code place) w (f ∷ fs) other h k = h
 
--- what follows a part that is right
+-- what follows a part without an error
 pub first-then : {A B : Type 0} (rule : A → Verdict B) (v : Verdict A) (failures : List FailingPlace) (next : A → List FailingPlace)
     → IsFirst v failures → ((a : A) → IsFirst (rule a) (next a)) → IsFirst (lift rule v) (failures ++ if_typed next v)
 unfolding lift
@@ -155,7 +155,7 @@ first-then rule (Fine a) (f ∷ fs) next h k = no_some _ h
 first-then rule (Fault code place) [] next h k = no_none _ h
 first-then rule (Fault code place) (f ∷ fs) next h k = h
 
--- the same where what follows is judged as well after a part that is refused
+-- the same if what follows is judged even after an error
 pub first-row : {A B : Type 0} (rule : A → Verdict B) (v : Verdict A) (failures : List FailingPlace) (next : Verdict A → List FailingPlace)
     → IsFirst v failures → ((a : A) → IsFirst (rule a) (next (Fine a))) → IsFirst (lift rule v) (failures ++ next v)
 unfolding lift

@@ -80,7 +80,7 @@ limit-least : (limit : Option TypeCode) (codes : List TypeCode) → least_code l
 limit-least None codes = refl
 limit-least (Some limit) codes = least-before limit codes
 
--- ---- what the `=` says of values that have types is all that it says of them
+-- ---- the codes at the `=` for typed values are all of its codes
 
 lift-cases : {A B P : Type 0} (rule : A → Verdict B) (v : Verdict A) (b : B) → lift rule v ≡ Fine b
     → ((a : A) → v ≡ Fine a → rule a ≡ Fine b → P) → P
@@ -104,7 +104,7 @@ both-said at (Fine first) (Fault code place) = refl
 both-said at (Fault code place) (Fine others) = refl
 both-said at (Fault code place) (Fault other there) = refl
 
--- what a verdict has
+-- the value of a result
 abbrev was_read : {A : Type 0} → A → Verdict (A × Literals) → A
 was_read other (Fine r) = r.0
 was_read other (Fault code place) = other
@@ -209,7 +209,7 @@ none-said : (limit : Option TypeCode) (codes : List TypeCode) → option_to_list
 none-said None codes is = is
 none-said (Some limit) codes is = absurd cc
 
--- of a wrong form the least of its code and of those of items
+-- for a wrong form, the least of its code and those of the items
 form-first : (at : Place) (some : List TypeCode)
     → IsFirst {A = Reading} (Fault (least Initializer (least_among some)) at) (failing_at at (Initializer ∷ some))
 form-first at [] = refl

@@ -1,4 +1,4 @@
--- Faults of a declared type are at the name, and come after a second declaration of the name there.
+-- Errors of a declared type are at the name, and come after the error that the name is declared twice.
 use Rattle.std.proofs.Common.{◌≡◌, refl, sym, ap, ◌∙◌, ℕ, ℤ, pos, Bool, true, false, if◌then◌else◌, ◌&&◌, not, List, [], ◌∷◌}
 use Rattle.std.proofs.Common.{◌++◌, Option, Some, None, append-nil}
 use Rattle.std.specs.Prelude.{is_some, unsigned_abs, nat_le}
@@ -100,7 +100,7 @@ pub after-both : (some more : List TypeCode) → AreAfterTwice some → AreAfter
 after-both [] more h k = k
 after-both (code ∷ others) more h k = (h.0, after-both others more h.1 k)
 
--- the faults of a verdict are at a name, and come after a second declaration of it
+-- an error, if the result is one, is at a name, and comes after that of a second declaration
 abbrev pub IsNamed : {A : Type 0} → Place → Verdict A → Type 0
 IsNamed at (Fine value) = Unit {0}
 IsNamed at (Fault code place) = (place ≡ at) × IsAfterTwice code
@@ -192,7 +192,7 @@ unfolding lift
 unless-first None found following h = h
 unless-first (Some fault) found following h = h
 
--- what is wrong at a name, before what is wrong with the bounds after it
+-- an error at a name comes before those of the bounds after it
 pub named-first : {A B : Type 0} (at : Place) (rule : B → Verdict A) (v : Verdict B) (refused : Option (TypeCode × Place)) (following : List FailingPlace)
     → IsNamed at (lift rule v) → refused ≡ first_failure following
     → IsFirst (lift (λ whole. lift (unless_refused refused) (rule whole)) v) (failing_at at (codes_of (lift rule v)) ++ following)
@@ -210,9 +210,9 @@ declarator-first c base count d =
     (bounded c d.place (starred d.pointers.items base) d.bounds.items) (refused_bound c d.bounds.items) (bounds_failures c d.bounds.items)
     (named_type-named c base count d) (bounds-first c d.bounds.items)
 
--- ---- further rules at a name
+-- ---- more rules at a name
 
--- a rule on what is declared, beside the others of the name
+-- a rule on what is declared, with the others of the name
 pub rule-at-name : {A B : Type 0} (at : Place) (rule : A → Verdict B) (v : Verdict A) (some : List TypeCode) (following : List FailingPlace)
     → IsFirst v (failing_at at some ++ following) → ((a : A) → IsNamed at (rule a))
     → IsFirst (lift rule v) (failing_at at (some ++ if_typed (λ a. codes_of (rule a)) v) ++ following)
@@ -225,14 +225,14 @@ rule-at-name at rule (Fine a) (x ∷ xs) following h is = no_some _ h
 rule-at-name at rule (Fault code place) [] following h is = h
 rule-at-name at rule (Fault code place) (x ∷ xs) following h is = h ∙ ap (λ ys. Some (least_of x ys, at)) (sym (append-nil xs))
 
--- a name that is declared a second time
+-- a name that is declared twice
 pub twice-first : {A : Type 0} (at : Place) (declared : Bool) (v : Verdict A) (some : List TypeCode) (following : List FailingPlace)
     → AreAfterTwice some → IsFirst v (failing_at at some ++ following)
     → IsFirst (if declared then Fault codes.DeclaredTwice at else v) (failing_at at (unless (not declared) codes.DeclaredTwice ++ some) ++ following)
 twice-first at true v some following after h = ap (λ x. Some (x, at)) (sym (twice-least some after))
 twice-first at false v some following after h = h
 
--- what goes on from a verdict that fails at most at those places
+-- a value made from one: it has the same failing positions
 pub first-made : {A B : Type 0} (made : A → B) (v : Verdict A) (failures : List FailingPlace) → IsFirst v failures
     → IsFirst (lift (λ a. Fine (made a)) v) failures
 unfolding lift

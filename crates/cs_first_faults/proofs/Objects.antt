@@ -39,7 +39,7 @@ use Rattle.cs_first_faults.proofs.Types.{specs-first}
 
 -- ---- parameters
 
--- a head of which no name is declared a second time
+-- a head, unless one of its names is declared twice
 abbrev pub unless_twice : Option Place → Head → Verdict Head
 unless_twice None head = Fine head
 unless_twice (Some at) head = Fault codes.DeclaredTwice at
@@ -47,7 +47,7 @@ unless_twice (Some at) head = Fault codes.DeclaredTwice at
 abbrev pub once : Head → Verdict Head
 once head = unless_twice head.twice head
 
--- a parameter's name that is declared a second time counts, whatever comes after it
+-- a parameter name that is declared twice is an error, whatever comes after it
 twice-counts : (at : Place) (ps : List RawParameter) (variables : List Variable) (written : List Bool) (k : Environment)
     → fault_in (lift once (parameters_after ps (record { variables = variables; written = written; twice = Some at; known = k })))
     ≡ Some (codes.DeclaredTwice, at)
@@ -81,7 +81,7 @@ twice-counts at (p ∷ ps) variables written k = of_specs (specs_type k p.place 
   of_specs (Fine found) again = of_passed found.1 (parameter_passed found.1.context p (starred p.pointers.items found.0)) again
   of_specs (Fault code place) again = refl
 
--- what goes on after a parameter whose name is free
+-- the parameters after one whose name isn't declared yet
 free-then : (ps : List RawParameter) (next : Passed → Head) (v : Verdict Passed) (failures : List FailingPlace) → IsFirst v failures
     → ((one : Passed) → IsFirst (lift once (parameters_after ps (next one))) (parameters_failures ps (next one)))
     → IsFirst (lift once (lift (parameters_after ps) (lift (λ one. Fine (next one)) (after_twice None v))))
@@ -92,7 +92,7 @@ free-then ps next (Fine one) (f ∷ fs) h k = no_some _ h
 free-then ps next (Fault code place) [] h k = no_none _ h
 free-then ps next (Fault code place) (f ∷ fs) h k = h
 
--- the same of one whose name may be declared already
+-- the same for one whose name may be declared already
 named-then : (at : Place) (free : Bool) (ps : List RawParameter) (next : Option Place → Passed → Head) (v : Verdict Passed) (some : List TypeCode)
     (bounds : List FailingPlace) → AreAfterTwice some → IsFirst v (failing_at at some ++ bounds)
     → ((one : Passed) → IsFirst (lift once (parameters_after ps (next None one))) (parameters_failures ps (next None one)))
@@ -181,7 +181,7 @@ file_initial-first ty (Some value) o =
     first-made _ (initial_typed o.filed.known.context o.filed.known.literals InFile value.place ty value.initial) _
     (initial-first o.filed.known.context o.filed.known.literals InFile value.place ty value.initial)
 
--- an object, by whether its name may stand for it
+-- an object, by whether its name may be declared so
 admitted-first : {A B C : Type 0} (at : Place) (admitted : Bool) (rule : A → Verdict B) (made : B → C) (store : A → C → Verdict Filed)
     (next : A → C → List FailingPlace) (v : Verdict A) (some : List TypeCode) (bounds : List FailingPlace)
     → AreAfterTwice (some ++ if_typed (λ a. codes_of (rule a)) v)

@@ -1,4 +1,4 @@
--- The code with which the rules of operators refuse at a position is the least one there: for each production of expressions.
+-- The code that the rules of operators return at a position is the least one there: for each production of expressions.
 use Rattle.std.proofs.Common.{◌≡◌, refl, sym, ap, ℕ, zero, suc, Bool, true, false, if◌then◌else◌, ◌&&◌, ◌||◌, ◌==◌, not, List, []}
 use Rattle.std.proofs.Common.{◌∷◌, ◌++◌}
 use Rattle.std.proofs.Common.{Option, Some, None}
@@ -40,7 +40,7 @@ use Rattle.cs_first_faults.specs.Expressions.{something, address_codes, member_f
 use Rattle.cs_first_faults.specs.Expressions.{choice_codes, cast_codes, recast_codes}
 use Rattle.cs_first_faults.proofs.Firsts.{no_some, no_none, IsAt, if_at, lift_at, first-failing-last, first-before, first-then-nothing, first-stored}
 
--- ---- the faults of these rules are at their operator's place
+-- ---- the errors of these rules are at their operator's position
 
 pub converted-at : (model : DataModel) (at : Place) (e : Typed) (target source : Shape) → IsAt at (converted model at e target source)
 unfolding converted pointed
@@ -102,7 +102,7 @@ recast-at model at e (pointer t) (struct n) = refl
 recast-at model at e (array t n) source = refl
 recast-at model at e (struct n) source = refl
 
--- two values that don't meet are refused as operands of these types
+-- two values without a common type are an error of operand types
 abbrev pub IsMismatch : {A : Type 0} → Place → Verdict A → Type 0
 IsMismatch at (Fine value) = Unit {0}
 IsMismatch at (Fault code place) = (code ≡ codes.OperandTypes) × (place ≡ at)
@@ -130,7 +130,7 @@ met-mismatch model at one other void s = (refl, refl)
 met-mismatch model at one other (array t n) s = (refl, refl)
 met-mismatch model at one other (struct n) s = (refl, refl)
 
--- ---- operators before or after an object
+-- ---- prefix and postfix operators
 
 lvalue : (at : Place) (object : Bool) (v : Typed)
     → IsFirst (if object then Fine v else Fault codes.NotLvalue at) (failing_at at (unless object codes.NotLvalue) ++ [])
@@ -189,7 +189,7 @@ arrow-first c at name_at name (Of p (struct n) form) = refl
 abbrev stepped_at : Context → BinOp → Gives → Place → Typed → Verdict Typed
 stepped_at c op gives at e = lift (stepped_object c op gives at) (steppable c.table.list op at e)
 
--- codes that come after those of an object that isn't an lvalue, or of a type that the operator doesn't take
+-- codes that come after those of an object that isn't an lvalue, or of a type that the operator doesn't support
 abbrev IsLater : Option TypeCode → Type 0
 IsLater None = Unit {0}
 IsLater (Some code) = (lesser codes.NotLvalue code ≡ codes.NotLvalue) × (lesser codes.OperandTypes code ≡ codes.OperandTypes)
@@ -198,7 +198,7 @@ if_later : (test : Bool) (one other : Option TypeCode) → IsLater one → IsLat
 if_later true one other h k = h
 if_later false one other h k = k
 
--- a pointer, by whether it is an lvalue and the operator takes it
+-- a pointer, by whether it is an lvalue and the operator supports it
 moved-object : (c : Context) (op : BinOp) (gives : Gives) (at p : Place) (target : Shape) (form : Form) (object additive : Bool)
     (fault : Option TypeCode) (move : Typed → Verdict Typed) → IsLater fault
     → move (Of p (pointer target) form) ≡ weighed at fault (Fine (Of p (pointer target) form))
@@ -258,7 +258,7 @@ step_before-first c op gives at (Of p (pointer t) form) = first-then-nothing _ _
 step_before-first c op gives at (Of p (array t n) form) = first-then-nothing _ _ (step-first c op gives at (Of p (array t n) form))
 step_before-first c op gives at (Of p (struct n) form) = first-then-nothing _ _ (step-first c op gives at (Of p (struct n) form))
 
--- ---- operators that store
+-- ---- assignment operators
 
 left_fault-later : (c : Context) (op : AssignOp) (ty : Shape) → IsLater (left_fault c op ty)
 unfolding left_fault assigned_fault updated_fault
@@ -274,7 +274,7 @@ left_fault-later c op ty =
     updated (array t n) = tt
     updated (struct n) = tt
 
--- the left side by whether it is an lvalue, and has a type that the operator takes
+-- the left operand, by whether it is an lvalue, and has a type that the operator supports
 abbrev left_by : Place → Typed → Bool → Bool → Verdict Typed
 left_by at e stored taken = if stored then (if taken then Fine e else Fault codes.OperandTypes at) else Fault codes.NotLvalue at
 
@@ -343,7 +343,7 @@ store-first c op at (Of p (struct n) form) right following h =
     (first-stored at (left_fault c op (struct n)) (stored_by c op at (Of p (struct n) form)) right following h
     (stored_by-at c op at (Of p (struct n) form)))
 
--- ---- values that an operator brings together
+-- ---- values that an operator converts to one type
 
 -- `?:`
 choice-met : (at : Place) (test alike_values : Typed) (same : Bool) (pair : Verdict Pair) → IsMismatch at pair
@@ -437,7 +437,7 @@ cast-first c at zero (Fine void) e following h = cast-typed c at void e followin
 cast-first c at zero (Fine (integer t)) e following h = cast-typed c at (integer t) e following h
 cast-first c at zero (Fine (pointer t)) e following h = cast-typed c at (pointer t) e following h
 
--- ---- operators before one operand
+-- ---- operators on one operand
 
 value-first : (rule : Typed → Verdict Typed) (v : Verdict Typed) → IsFirst (lift rule v) (fails rule v ++ failing v)
 unfolding lift

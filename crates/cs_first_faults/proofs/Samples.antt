@@ -28,7 +28,7 @@ use Rattle.cs_first_faults.specs.Expressions.{failures, argument_codes, argument
 abbrev column : ℕ → Place
 column n = record { file = 0; line = 1; column = n }
 
--- where these names are declared, after `struct q;`
+-- a context with these declarations, after `struct q;`
 abbrev declaring : List Declaration → Context
 declaring declarations = record {
   model = Lp64;
@@ -36,7 +36,7 @@ declaring declarations = record {
   scope = record { declarations = declarations; tags = [] };
 }
 
--- `x + y`, of which neither is declared: both names fail, and the operator can't be judged
+-- `x + y`, with neither declared: both names fail, and the operator can't be judged
 sum_of_unknown_names : (p q : Box (Unit {0}) Global)
     → failures (declaring []) Run [] None (column 3)
     (kind.Infix' infix_op.Add (column 1) p (kind.Name (codes "x")) (column 5) q (kind.Name (codes "y")))
@@ -44,7 +44,7 @@ sum_of_unknown_names : (p q : Box (Unit {0}) Global)
 unfolding named done operand_in lift
 sum_of_unknown_names p q = refl
 
--- `struct q *p;` and `p += p`: a pointer to an incomplete type isn't moved, and a pointer isn't added, both at the operator
+-- `struct q *p;` and `p += p`: a pointer to an incomplete type can't be moved, and a pointer can't be added: two errors at the operator
 pointer_to_incomplete : Declaration
 pointer_to_incomplete = record { name = codes "p"; meaning = meaning.Global 0 (pointer (struct 0)) }
 
@@ -64,7 +64,7 @@ unfolding pointer_to_incomplete moved_by_itself named done finished operand_in o
     stored_by updated lift
 least_code_counts p q = refl
 
--- `p + y`, where `y` isn't declared: of `p` alone the operator says that it isn't moved, and it comes first
+-- `p + y`, with `y` not declared: that `p` can't be moved is an error of `p` only, and comes first
 pointer_and_unknown : (p q : Box (Unit {0}) Global)
     → failures (declaring (pointer_to_incomplete ∷ [])) Run [] None (column 3)
     (kind.Infix' infix_op.Add (column 1) p (kind.Name (codes "p")) (column 5) q (kind.Name (codes "y")))
@@ -72,7 +72,7 @@ pointer_and_unknown : (p q : Box (Unit {0}) Global)
 unfolding pointer_to_incomplete named done finished operand_in operand valued held left_operand_fault lift
 pointer_and_unknown p q = refl
 
--- `(p, y)` for two `int`s, where `p` is declared as `int *p;`: the call says of `p` that it is no integer, and `y` isn't declared
+-- `(p, y)` for two `int`s, with `int *p;`: that `p` isn't an integer is an error at the call, and `y` isn't declared
 abbrev integers_for_call : Context
 integers_for_call = declaring (record { name = codes "p"; meaning = meaning.Global 0 (pointer (integer Int)) } ∷ [])
 

@@ -94,7 +94,7 @@ first_part-first i first_part.Empty = refl
 first_part-first i (first_part.Run e) = first-made _ (dropped_in i e) _ (dropped_in-first i e)
 first_part-first i (first_part.Declare s objects) = declaration-first s objects.items (no_statements i)
 
--- a word asks something of what stands after another part, of which it says a code before if that is refused
+-- a keyword that requires something of a part after another one, with a code that comes before the errors of that one
 first-across : {A B : Type 0} (rule : A → Verdict B) (v : Verdict A) (at : Place) (fault : Option TypeCode) (failures : List FailingPlace)
     (asked : Verdict A → List FailingPlace) (next : A → List FailingPlace) → IsFirst v failures
     → ((code : TypeCode) (place : Place) → asked (Fault code place) ≡ failing_at at (option_to_list fault))
@@ -116,7 +116,7 @@ tested-at : (at : Place) (v : Typed) → IsAt at (tested at v)
 unfolding tested
 tested-at at v = if_at at (is_scalar (type_of v)) _ _ tt refl
 
--- what a word says of its test in what is known before the part between them
+-- a keyword's error on its test, judged in the context before the part between them
 word-said : (at : Place) (i : Inside) (e : Option RawExpr)
     → word_failures at (knowing (with_literals [] i.known) i) e ≡ failing_at at (option_to_list (word_fault at i e))
 unfolding test_fault
@@ -139,7 +139,7 @@ jump-alone : {A : Type 0} (at : Place) (met : Bool) (a : A) → IsFirst (if met 
 jump-alone at true a = refl
 jump-alone at false a = refl
 
--- a word asks something of a part after it, and more follows
+-- a keyword that requires something of a part after it, with more after that
 first-split : {A B : Type 0} (rule : A → Verdict B) (v : Verdict A) (asked tests : List FailingPlace) (next : A → List FailingPlace)
     → IsFirst v (asked ++ tests) → ((a : A) → IsFirst (rule a) (next a)) → IsFirst (lift rule v) (asked ++ (tests ++ if_typed next v))
 first-split {B = B} rule v asked tests next h k =

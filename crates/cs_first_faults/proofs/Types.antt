@@ -96,7 +96,7 @@ enum-first k at name constants =
     by_test true v failures h = h
     by_test false v failures h = refl
 
--- ---- words
+-- ---- specifiers
 
 mutual
   row-first : {n : Count} (k : Environment) (at_tag : Option Place) (at : Place) (all : List TypeWord) (row : words.Row_of-SpecWord n)

@@ -1,4 +1,4 @@
--- The labels in a statement and in those after it: for the contracts of the table of labels.
+-- The position of a label in a statement and in those after it: for the contracts of the table of labels.
 use Rattle.std.proofs.Common.{◌≡◌, ℕ, ◌+◌, ◌==◌, Bool, true, false, List, [], ◌∷◌, Option, Some, None, Result, Ok, Err, OnOk}
 use Rattle.std.proofs.Common.{if◌then◌else◌, refl, sym, ap, ◌∙◌}
 use Rattle.cs_ast.specs.declared.place.Place.{Place}
@@ -23,14 +23,14 @@ landed-two : (a b : Option Landing) → landed (first_of_two a b) ≡ at_label (
 landed-two None b = refl
 landed-two (Some landing) b = refl
 
--- a label found here, or one found elsewhere
+-- a label that is found here, or elsewhere
 landed-here : (here : Bool) (one other : Landing) (a b : Option Landing) → one.at ≡ other.at → landed a ≡ landed b
     → landed (if here then Some one else a) ≡ landed (if here then Some other else b)
 landed-here true one other a b at same = ap (λ (p : Place). landed (Some (record one { at = p }))) at
 landed-here false one other a b at same = same
 
 mutual
-  -- neither the counted points nor what is to be done after a statement says where a label stands
+  -- the position of a label depends neither on the counted points nor on what is to be done after the statement
   pub landed-anywhere : (wanted : ℕ) (s : Statement) (m n : ℕ) (a b : List Item) → landed (landing wanted s m a) ≡ landed (landing wanted s n b)
   landed-anywhere wanted (Block at statements) m n a b = landed_in-anywhere wanted statements m n a b
   landed-anywhere wanted (Declare at declaration initial) m n a b = refl
@@ -67,7 +67,7 @@ mutual
       (landed_in-anywhere wanted others (m + counted_points first) (n + counted_points first) a b)
       ∙ sym (landed-two (landing wanted first n (executes others (n + counted_points first) b)) (landing_in wanted others (n + counted_points first) b))))
 
--- the label of each form of statement that holds others
+-- the labels of each form of statement that contains others
 pub label_in-IfElse : (label : ℕ) (at : Place) (test : Typed) (body other : Statement)
     → at_label (label_in label body) (label_in label other) ≡ label_in label (IfElse at test body other)
 label_in-IfElse label at test body other =
@@ -106,14 +106,14 @@ label_in-Then label first others =
     (landed-anywhere label first 0 0 (executes others (0 + counted_points first) []) [])
     ∙ ap (at_label (label_in label first)) (landed_in-anywhere label others (0 + counted_points first) 0 [] []))
 
--- labels that were added, seen as those of the statement that they stand in
+-- added labels are those of the statement that contains them
 pub added : {E : Type 0} (r : Result (Unit {0}) E) (old new some whole : ℕ → Next) → ((label : ℕ) → some label ≡ whole label)
     → OnOk r ((label : ℕ) → new label ≡ at_label (old label) (some label))
     → OnOk r ((label : ℕ) → new label ≡ at_label (old label) (whole label))
 added (Ok x) old new some whole same are = λ label. are label ∙ ap (at_label (old label)) (same label)
 added (Err e) old new some whole same are = tt
 
--- labels that were added one after another
+-- labels added one after another
 pub added_both : {E : Type 0} (r : Result (Unit {0}) E) (old between new first second whole : ℕ → Next)
     → ((label : ℕ) → between label ≡ at_label (old label) (first label)) → ((label : ℕ) → at_label (first label) (second label) ≡ whole label)
     → OnOk r ((label : ℕ) → new label ≡ at_label (between label) (second label))

@@ -1,4 +1,4 @@
--- Consecutive expressions, initializers and statements, of which the last one is reached last: for the loops that traverse them from the end.
+-- Lists of expressions, initializers and statements with one more at the end: for the loops that walk them from the end.
 use Rattle.std.proofs.Common.{◌≡◌, List, [], ◌∷◌, ◌++◌, refl, sym, ap, ◌∙◌, append_assoc}
 use Rattle.cs_ast.specs.declared.typed.expression.Expr.{Expr}
 use Rattle.cs_ast.specs.declared.typed.statement.Initial.{Initial}

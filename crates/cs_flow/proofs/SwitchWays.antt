@@ -1,4 +1,4 @@
--- The ways out of a `switch`, by what is reached first from each of its statements on: for the contract of `switch`.
+-- The ways out of a `switch`, by the first control points of its statements: for the contract of `switch`.
 use Rattle.std.proofs.Common.{◌≡◌, ℕ, zero, suc, ◌+◌, List, [], ◌∷◌, ◌++◌, length, refl, ap, ◌∙◌, arith}
 use Rattle.cs_ast.specs.declared.typed.statement.Case.{Case}
 use Rattle.cs_ast.specs.declared.typed.statement.Stmt.{Stmt}
@@ -24,7 +24,7 @@ pub length-all_starts : (to : Targets) (statements : Statements) (following : Ne
 length-all_starts to Empty following = refl
 length-all_starts to (Then one others) following = omega (arith, length-all_starts to others following)
 
--- what a statement with a number begins with
+-- the first control point from the statement with a number on
 pub start_at-is : (to : Targets) (statements : Statements) (following : Next) (number : ℕ)
     → start_at (all_starts to statements following) following number ≡ starts_from to number statements following
 start_at-is to Empty following number = refl

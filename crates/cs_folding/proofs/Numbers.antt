@@ -14,7 +14,7 @@ use Rattle.cs_types.specs.IntType.{has_sign, least_of, greatest_of, InRange, IsI
 use Rattle.cs_types.specs.Wrap.{near_quotient, wrap_quotient, wrapped}
 use Rattle.cs_folding.specs.Folding.{is_zero, given, without}
 
--- the ends of a type's range are ends of the range of C's integers, or within it
+-- the range of each type is within the range of C's integers
 least-in_c : (model : DataModel) (ty : IntType) → (pos 0 -ℤ pos (2 ^ 63)) ≤ℤ least_of model ty
 least-in_c Lp64 Long = omega (arith, ints)
 least-in_c Lp64 ULong = omega (arith, ints)
@@ -45,7 +45,7 @@ greatest-in_c model UInt = omega (arith, ints)
 greatest-in_c model LLong = omega (arith, ints)
 greatest-in_c model ULLong = omega (arith, ints)
 
--- a number of an integer type is one of C
+-- a number of an integer type is one of C's integers
 pub in_c : (model : DataModel) (ty : IntType) (n : ℤ) → InRange model ty n → IsIntegerOfC n
 in_c model ty n h = between (least_of model ty) (greatest_of model ty) (least-in_c model ty) (greatest-in_c model ty) h.from_least h.to_greatest
   where
@@ -62,7 +62,7 @@ not_zero z h = elim (int_eq z (pos 0)) as (λ t. int_eq z (pos 0) ≡ t → t �
   | false ↦ λ _. refl
 ] refl
 
--- a near quotient is 0 just where the quotient is
+-- a near quotient is 0 exactly if the quotient is
 pub near-zero : (q : ℤ) → is_zero (near_quotient q) ≡ int_eq q (pos 0)
 near-zero (pos zero) = refl
 near-zero (pos (suc zero)) = refl
@@ -72,7 +72,7 @@ near-zero (negsuc (suc n)) = refl
 
 pub ruleset products = (near-zero)
 
--- an exact result that an unsigned type takes, and one that a signed type holds
+-- an exact result, wrapped to an unsigned type or in the range of a signed one
 pub given_unsigned : (model : DataModel) (needed : Bool) (ty : IntType) (z : ℤ) → has_sign ty ≡ false
     → given model needed ty z ≡ Some (wrapped model ty z)
 unfolding given

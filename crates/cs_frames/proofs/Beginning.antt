@@ -12,12 +12,12 @@ use Rattle.cs_memory.specs.MemoryView.{memory_of}
 use Rattle.cs_run_state.specs.MachineView.{frame_of, state_of}
 
 module _ (program : TypedProgram) (inputs : Path → ℤ) (r : Routine) where
-  -- what memory holds at first
+  -- memory at the beginning
   abbrev pub first_memory : meaning.Memory
   first_memory = with_locals program 0 r.variables (map (λ v. Scalar (received program inputs v)) (parameters_of r))
       (with_received program inputs (parameters_of r) (static_memory program))
 
-  -- a machine in a first frame that no other called, with what memory holds at first
+  -- a machine in a first frame without a caller, with the memory of the beginning
   pub started_is : (entry : ℕ) (m : Machine) → frame_of m.frame ≡ new_frame entry 0 r → m.callers.items ≡ [] → memory_of m.memory ≡ first_memory
       → length m.memory.frames.items ≡ 1 → length m.memory.heap.items ≡ 0 → m.calls ≡ 0 → state_of m ≡ started program inputs entry r
   unfolding state_of

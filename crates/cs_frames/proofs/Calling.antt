@@ -15,13 +15,13 @@ use Rattle.cs_meaning.specs.Memory.{Memory}
 use Rattle.cs_meaning.specs.Machine.{Operand, Nothing, State, newest, pop_many, routine_of, no_routine, NOWHERE}
 use Rattle.cs_frames.specs.Calling.{call_returning, received_result, is_nothing}
 
--- a function that is there
+-- a function that exists
 pub routine_is : (program : Program) (number : ℕ) (f : Function) → slice_get program.functions.items number ≡ Some f
     → routine_of (typed_program program) number ≡ routine f
 routine_is program number f there =
     ap (λ (r : Option Routine). unwrap_or r (no_routine NOWHERE)) (slice_get-map routine program.functions.items number ∙ ap (option_map routine) there)
 
--- one that isn't there
+-- a function that doesn't exist
 pub routine_none : (program : Program) (number : ℕ) → slice_get program.functions.items number ≡ None
     → routine_of (typed_program program) number ≡ no_routine NOWHERE
 routine_none program number none =
@@ -40,7 +40,7 @@ call_is program budgets at function count r m written arguments left there none 
     ∙ ap (λ (n : State). call_returning program at function r.returns written arguments n) (sym is))))
 
 module _ (program : TypedProgram) (call : ℕ) (memory : Memory) where
-  -- the result where the type is void
+  -- the result, if its type is `void`
   pub result_nothing : (ty : Shape) → is_nothing ty ≡ true → (onward : Memory → Operand → Act State)
       → outside_result program ty call memory onward ≡ onward memory Nothing
   result_nothing void h onward = refl
@@ -49,7 +49,7 @@ module _ (program : TypedProgram) (call : ℕ) (memory : Memory) where
   result_nothing (array element count) h onward = cc
   result_nothing (struct number) h onward = cc
 
-  -- the result where it isn't
+  -- the result of another type
   pub result_received : (ty : Shape) → is_nothing ty ≡ false
       → ◌≡◌ {A = (Memory → Operand → Act State) → Act State} (outside_result program ty call memory) (received_result program ty call memory)
   result_received void h = cc

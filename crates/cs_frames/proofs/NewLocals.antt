@@ -11,7 +11,7 @@ use Rattle.cs_meaning.specs.Calls.{argument_at, local_block, with_locals, inside
 use Rattle.cs_frames.specs.Calling.{inside_with}
 use Rattle.cs_memory.specs.MemoryView.{with_frame}
 
--- a local that is no parameter holds nothing
+-- a local other than a parameter holds nothing
 pub no_argument : argument_at None ≡ none_written
 no_argument =
     fun_ext (λ offset.
@@ -25,7 +25,7 @@ pub local_with : (program : TypedProgram) (operand : Operand) (v : Variable)
     → local_block program (Some operand) v ≡ write_cell 0 (cell_of operand) (new_block v.ty (size_of program v.ty) UnsetFill)
 local_with program operand v = refl
 
--- memory with the locals of a frame, each of them as it should be
+-- memory with the locals of a frame, each with its block
 pub locals_are : (program : TypedProgram) (frame : ℕ) (variables : List Variable) (arguments : List Operand) (locals : ℕ → Option Block) (memory : Memory)
     → ((n : ℕ) → locals n ≡ option_map (local_block program (slice_get arguments n)) (slice_get variables n))
     → with_frame frame locals memory ≡ with_locals program frame variables arguments memory
@@ -38,7 +38,7 @@ locals_are program frame variables arguments locals memory are = fun_ext (λ obj
     at (LocalObject n d) = rw (are d) refl
     at (HeapBlock allocation) = refl
 
--- the machine in a new frame with the locals that it should have
+-- the machine in a new frame, whose locals have their blocks
 pub inside_is : (program : TypedProgram) (frame : Frame) (routine : Routine) (arguments : List Operand) (locals : ℕ → Option Block) (m : State)
     → ((n : ℕ) → locals n ≡ option_map (local_block program (slice_get arguments n)) (slice_get routine.variables n))
     → inside_with frame locals m ≡ inside program frame routine arguments m

@@ -1,4 +1,4 @@
--- An object that is changed or stays the same: for the contract of `overwrite`.
+-- An object that is changed or remains the same: for the contract of `overwrite`.
 use Rattle.std.proofs.Common.{◌≡◌, Bool, true, false, Some, None, refl, sym, ap, subst, arith, if◌then◌else◌}
 use Rattle.std.specs.Prelude.{option_map}
 use Rattle.std.specs.declared.cmp.Ordering.{Ordering}
@@ -15,7 +15,7 @@ is_tie Less h = cc
 is_tie Equal h = refl
 is_tie Greater h = cc
 
--- objects that are one are equal
+-- objects that compare as the same are equal
 same_is : (one other : Object) → same_object one other ≡ true → one ≡ other
 same_is (StartBlock p) (StartBlock q) h = ap StartBlock (path_order-tie p q (is_tie (path_order p q) h))
 same_is (StartBlock p) (GlobalObject n) h = cc
@@ -52,7 +52,7 @@ same_is (HeapBlock m) (HeapBlock n) h =
     let e : m ≡ n = grind (arith, nat_tests) in
     ap HeapBlock e
 
--- a change that does to an object what another does
+-- two changes with the same result for an object
 pub changes_as : (f g : Block → Block) (object : Object) (memory : Memory) (block : Block) → memory object ≡ Some block → f block ≡ g block
     → changed f object memory ≡ changed g object memory
 changes_as f g object memory block there same = fun_ext (λ other. at other (same_object object other) refl)
@@ -64,7 +64,7 @@ changes_as f g object memory block there same = fun_ext (λ other. at other (sam
         let here : memory other ≡ Some block = subst (λ (o : Object). memory o ≡ Some block) (same_is object other e) there in
         rw here (ap Some same)
 
--- a change that does nothing to an object
+-- a change that doesn't change an object
 pub changes_nothing : (f : Block → Block) (object : Object) (memory : Memory) (block : Block) → memory object ≡ Some block → f block ≡ block
     → memory ≡ changed f object memory
 changes_nothing f object memory block there same = fun_ext (λ other. at other (same_object object other) refl)
@@ -75,7 +75,7 @@ changes_nothing f object memory block there same = fun_ext (λ other. at other (
         let here : memory other ≡ Some block = subst (λ (o : Object). memory o ≡ Some block) (same_is object other e) there in
         rw here (ap Some (sym same))
 
--- an object that isn't there isn't changed
+-- an object that doesn't exist isn't changed
 pub changes_none : (f : Block → Block) (object : Object) (memory : Memory) → memory object ≡ None → memory ≡ changed f object memory
 changes_none f object memory none = fun_ext (λ other. at other (same_object object other) refl)
   where

@@ -8,7 +8,7 @@ use Rattle.cs_meaning.specs.Memory as meaning
 use Rattle.cs_objects.specs.declared.blocks.Block.{Block}
 use Rattle.cs_objects.specs.BlockView.{block_of, block_at}
 
--- an object of the row with one more at its end
+-- an object of a row, after one more is appended
 with_more : (row : List Block) (more : Block) (n : ℕ) → n < length row → block_at (row ++ more ∷ []) n ≡ block_at row n
 with_more [] more n h = absurd (omega arith)
 with_more (b ∷ row) more zero h = refl
@@ -18,7 +18,7 @@ with_last : (row : List Block) (more : Block) → block_at (row ++ more ∷ []) 
 with_last [] more = refl
 with_last (b ∷ row) more = with_last row more
 
--- how many objects there are with one more
+-- the length of a row, after one more is appended
 pub longer : (row : List Block) (more : Block) → length (row ++ more ∷ []) ≡ length row + 1
 longer [] more = refl
 longer (b ∷ row) more =
@@ -27,7 +27,7 @@ longer (b ∷ row) more =
 
 module _ (wanted : ℕ → Option meaning.Block) (row : List Block) (count : ℕ) (long : length row ≡ count) (are : (n : ℕ) → n < count
     → block_at row n ≡ wanted n) where
-  -- one more object, which is as it should be
+  -- one more object, which is the wanted one
   pub one_more_block : (more : Block) → Some (block_of more) ≡ wanted count → (n : ℕ) → n < count + 1 → block_at (row ++ more ∷ []) n ≡ wanted n
   one_more_block more new n h = at (nat_lt n count) refl
     where
@@ -40,7 +40,7 @@ module _ (wanted : ℕ → Option meaning.Block) (row : List Block) (count : ℕ
           let here : n ≡ length row = omega arith in
           ap (block_at (row ++ more ∷ [])) here ∙ (with_last row more ∙ (new ∙ ap wanted (sym long ∙ sym here)))
 
-  -- there are all that there should be
+  -- all wanted objects are there
   pub all_blocks : ((n : ℕ) → count ≤ n → wanted n ≡ None) → (n : ℕ) → block_at row n ≡ wanted n
   all_blocks none n = at (nat_lt n count) refl
     where

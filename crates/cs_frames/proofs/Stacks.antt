@@ -1,25 +1,25 @@
--- Lists stored in reverse order, without some of their first elements: for the contracts of `pop_newest` and
+-- Lists that are stored with their first element last, without some of their first elements: for the contracts of `pop_newest` and
 -- `drop_first`.
 use Rattle.std.proofs.Common.{◌≡◌, ℕ, zero, suc, ◌-◌, ◌<◌, ◌≤◌, List, [], ◌∷◌, ◌++◌, map, length, take, drop, reverse, refl}
 use Rattle.std.proofs.Common.{sym, ap, ◌∙◌, arith}
 use Rattle.std.proofs.lemmas.List.{reverse-append, reverse-reverse, length-reverse, take-append-drop, length-drop, length-map, take-map, drop-map}
 
 module _ {X : Type 0} where
-  -- what is after so many elements
+  -- the elements after a prefix
   after_are : (front back : List X) (n : ℕ) → length front ≤ n → (length front < n → back ≡ []) → drop n (front ++ back) ≡ back
   after_are [] back zero h none = refl
   after_are [] back (suc n) h none = rw (none (omega arith)) refl
   after_are (x ∷ front) back zero h none = absurd (omega arith)
   after_are (x ∷ front) back (suc n) h none = after_are front back n (omega arith) (λ less. none (omega arith))
 
-  -- the first ones
+  -- the prefix
   front_are : (front back : List X) (n : ℕ) → length front ≤ n → (length front < n → back ≡ []) → take n (front ++ back) ≡ front
   front_are [] back zero h none = refl
   front_are [] back (suc n) h none = rw (none (omega arith)) refl
   front_are (x ∷ front) back zero h none = absurd (omega arith)
   front_are (x ∷ front) back (suc n) h none = ap (λ l. x ∷ l) (front_are front back n (omega arith) (λ less. none (omega arith)))
 
-  -- a list in its two parts, read from the end
+  -- a list cut in two, reversed
   in_parts : (xs : List X) (k : ℕ) → reverse xs ≡ reverse (drop k xs) ++ reverse (take k xs)
   in_parts xs k = ap reverse (sym (take-append-drop k xs)) ∙ reverse-append (take k xs) (drop k xs)
 
@@ -31,20 +31,20 @@ module _ {X : Type 0} where
       let none : length xs - n ≡ 0 = omega (arith, length-reverse (drop (length xs - n) xs), length-drop (length xs - n) xs) in
       ap (λ k. reverse (take k xs)) none
 
-  -- without the first ones
+  -- the list without its first elements
   pub older_are : (xs : List X) (n : ℕ) → drop n (reverse xs) ≡ reverse (take (length xs - n) xs)
   older_are xs n =
       ap (drop n) (in_parts xs (length xs - n))
       ∙ after_are (reverse (drop (length xs - n) xs)) (reverse (take (length xs - n) xs)) n (within xs n) (none_left xs n)
 
-  -- the first ones, from the last of them on
+  -- its first elements, from the last of them on
   pub newest_are : (xs : List X) (n : ℕ) → reverse (take n (reverse xs)) ≡ drop (length xs - n) xs
   newest_are xs n =
       ap reverse (ap (take n) (in_parts xs (length xs - n))
       ∙ front_are (reverse (drop (length xs - n) xs)) (reverse (take (length xs - n) xs)) n (within xs n) (none_left xs n))
       ∙ reverse-reverse (drop (length xs - n) xs)
 
--- the same of a list that is seen as another
+-- the same for a mapped list
 pub newest_of : {X Y : Type 0} (f : X → Y) (xs : List X) (n : ℕ) → reverse (take n (reverse (map f xs))) ≡ map f (drop (length xs - n) xs)
 newest_of f xs n =
     newest_are (map f xs) n ∙ (ap (λ (k : ℕ). drop (k - n) (map f xs)) (length-map xs f) ∙ drop-map f (length xs - n) xs)

@@ -1,4 +1,4 @@
--- The cells that a text begins with, one after the other, and that they are unique: for `first_cell` and
+-- The cells that a text begins with, one after the other, and that the list of them is unique: for `first_cell` and
 -- `cells_of`.
 use Rattle.std.proofs.Common.{◌≡◌, ℕ, ◌<◌, ◌^◌, true, not, List, [], ◌∷◌, ◌++◌, length, drop, ap, sym, ◌∙◌, refl, append_assoc}
 use Rattle.std.proofs.Common.{arith}
@@ -23,18 +23,18 @@ cells_at [] = tt
 cells_at (c ∷ cs) = refl
 
 -- ---- the first cell of a text
--- a text begins with one cell
+-- the first cell of a text is unique
 pub one_cell : (text : List ℕ) (m n : ℕ) (b d : List ℕ) → BeginsWithCell text m b → BeginsWithCell text n d → (m ≡ n) × (b ≡ d)
 one_cell text m n b d one other =
     let same : decimal m ++ b ≡ decimal n ++ d = ap (drop 1) (sym one.whole ∙ other.whole) in
     let cut = one_cut 64 (decimal m) (decimal n) b d (decimal_without_at m one.fits) (decimal_without_at n other.fits) one.at other.at same in
     (decimal_injective m n one.fits other.fits cut.0, cut.1)
 
--- cells begin with the first of them
+-- a text of cells begins with the first of them
 pub begins_with_first : (text : List ℕ) (c : ℕ) (cs : List ℕ) → AreCellsOf text (c ∷ cs) → BeginsWithCell text c (cells_text cs)
 begins_with_first text c cs cells = record { fits = All-head (λ o. o < 2 ^ 64) c cs cells.fit; whole = sym cells.is; at = cells_at cs }
 
--- where no number stands after the `@`, there is no cell
+-- without a number after the `@`, there is no cell
 pub no_cell : (text cell digits following : List ℕ) → text ≡ 64 ∷ cell → SplitsBefore 64 cell digits following
     → ((n : ℕ) → IsDecimalOf digits n → ⊥) → (offset : ℕ) (others : List ℕ) → BeginsWithCell text offset others → ⊥
 no_cell text cell digits following is cut none offset others begins =
@@ -44,7 +44,7 @@ no_cell text cell digits following is cut none offset others begins =
     none offset (record { fits = begins.fits; is = sym same.0 })
 
 -- ---- cell after cell
--- so far these cells are read, and the rest is to come; all cells of the text have their last ones in the rest
+-- the cells that are read so far, and the rest of the text; all cells of the text end with cells of the rest
 pub record AreReadTo (text cells rest : List ℕ) : Type 0 where
   pub whole : text ≡ cells_text cells ++ rest
   pub fit : All (λ offset. offset < 2 ^ 64) cells
@@ -74,7 +74,7 @@ not_read text cells rest read some none others are = let more = read.only others
     at [] h = omega (arith, ap length h.is)
     at (c ∷ cs) h = none c (cells_text cs) (begins_with_first rest c cs h)
 
--- ---- one list of cells has a text
+-- ---- a text has one list of cells
 pub same_cells : (text : List ℕ) (one other : List ℕ) → AreCellsOf text one → AreCellsOf text other → one ≡ other
 same_cells text [] [] r s = refl
 same_cells text [] (d ∷ ds) r s = absurd (no_tail 64 (decimal d ++ cells_text ds) (s.is ∙ sym r.is))

@@ -1,4 +1,4 @@
--- Which texts are the decimal text of a 64-bit number, and of which: for `value_of` and `number_with_text`.
+-- Which texts are the decimal text of a 64-bit number, and of which one: for `value_of` and `number_with_text`.
 use Rattle.std.proofs.Common.{◌≡◌, ℕ, ◌<◌, ◌^◌, zero, suc, Bool, true, false, not, ◌&&◌, ◌||◌, eqb-true, List, [], ◌∷◌, length}
 use Rattle.std.proofs.Common.{get_or, Option, Some, None, Result, Ok, Err, ap, sym, ◌∙◌, refl, subst, arith, rules}
 use Rattle.std.specs.Prelude.{◌==◌, SomeIff}
@@ -19,7 +19,7 @@ use Rattle.cs_inputs.proofs.Splits.{both}
 pub own : IsNumeralModel (λ ds. list_all is_digit ds ≡ true) (digits_value 10)
 own = numerals_by_value _ (search rules)
 
--- ---- digits are read
+-- ---- digits as text
 pub digits_are_text : (bs : List ℕ) → list_all is_digit bs ≡ true → IsUtf8 bs
 digits_are_text bs h = IsUtf8-from_ascii bs (IsAscii-from_digits bs (own.to bs h))
 
@@ -45,7 +45,7 @@ is_nonempty bs n d = subst (λ (t : List ℕ). 0 < length t) d.is (decimal_nonem
 pub has_value : (bs : List ℕ) (n : ℕ) → IsDecimalOf bs n → digits_value 10 bs ≡ n
 has_value bs n d = subst (λ t. digits_value 10 t ≡ n) d.is (digits_value-decimal own n d.fits)
 
--- a zero stands first in the text of zero alone
+-- only the text of zero begins with a zero
 begins_with_zero : (n : ℕ) → n < 2 ^ 64 → get_or (decimal n) 0 0 ≡ 48 → length (decimal n) ≡ 1
 begins_with_zero zero fits first = ap length (decimal_digit 0 (omega arith))
 begins_with_zero (suc n) fits first = absurd (omega (arith, first_decimal (suc n) (omega arith) fits))
@@ -53,7 +53,7 @@ begins_with_zero (suc n) fits first = absurd (omega (arith, first_decimal (suc n
 pub has_no_leading_zero-first : (bs : List ℕ) (n : ℕ) → IsDecimalOf bs n → get_or bs 0 0 ≡ 48 → length bs ≡ 1
 has_no_leading_zero-first bs n d = subst (λ (t : List ℕ). get_or t 0 0 ≡ 48 → length t ≡ 1) d.is (begins_with_zero n d.fits)
 
--- a text has one number
+-- a text is that of at most one number
 pub same_number : (bs : List ℕ) (m n : ℕ) → IsDecimalOf bs m → IsDecimalOf bs n → m ≡ n
 same_number bs m n one other = sym (has_value bs m one) ∙ has_value bs n other
 
@@ -70,12 +70,12 @@ not_plain (b ∷ bs) h some plain = at (b == 48) refl (length bs == 0) refl h
     at true is true rest h = absurd (cc)
     at true is false rest h = let one : length (b ∷ bs) ≡ 1 = plain (eqb-true b 48 is) in grind (arith, nat_tests)
 
--- bytes that are no digits, or begin with a zero, are the text of no number
+-- bytes that aren't digits, or begin with a zero, aren't the text of a number
 pub not_found : (bs : List ℕ) → (list_all is_digit bs && has_no_leading_zero bs) ≡ false → (n : ℕ) → IsDecimalOf bs n → ⊥
 not_found bs h n d =
     not_plain bs (ap (λ t. t && has_no_leading_zero bs) (sym (is_digits bs n d)) ∙ h) (is_nonempty bs n d) (has_no_leading_zero-first bs n d)
 
--- other digits are found by their value
+-- the number of other digits is their value, if it has 64 bits
 pub found : (bs : List ℕ) (r : Option ℕ) → (list_all is_digit bs && has_no_leading_zero bs) ≡ true
     → SomeIff r (digits_value 10 bs < 2 ^ 64) (digits_value 10 bs) → Finds (IsDecimalOf bs) r
 found bs r plain h =

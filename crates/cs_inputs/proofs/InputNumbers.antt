@@ -29,18 +29,18 @@ pub in_order_after : (entries : List (Path × ℤ)) (path : Path) (number : ℤ)
     → IsInOrder (insert_entry path_order entries path number)
 in_order_after entries path number h = insert-sorted path_order-total entries path number h
 
--- what holds where a step succeeded
+-- what follows if a call succeeds
 pub then_OnOk : {T E : Type 0} {P Q : Type 0} (r : Result T E) → OnOk r P → (P → Q) → OnOk r Q
 then_OnOk (Ok x) p f = f p
 then_OnOk (Err e) p f = tt
 
--- entries stay in order, whether a path was set or refused
+-- entries remain in order, whether a path was set or refused
 pub in_order_either : {T E : Type 0} (r : Result T E) (old new : List (Path × ℤ)) (path : Path) (number : ℤ) → IsInOrder old
     → OnOk r (new ≡ insert_entry path_order old path number) → OnErr r (new ≡ old) → IsInOrder new
 in_order_either (Ok x) old new path number h ok err = subst IsInOrder (sym ok) (in_order_after old path number h)
 in_order_either (Err e) old new path number h ok err = subst IsInOrder (sym err) h
 
--- a search's answer among entries in order
+-- the result of a search among entries in order
 pub place_from_search : (r : Result ℕ ℕ) (P Q : ℕ → Type 0) (N : Type 0) → N → MatchResult r P (λ i. N → Q i) → MatchResult r P Q
 place_from_search (Ok i) P Q N n h = h
 place_from_search (Err i) P Q N n h = h n

@@ -1,4 +1,4 @@
--- The input that a text is parsed to, and that it is unique: for `parse`.
+-- The result for the text of an input, and that it is unique: for `parse`.
 use Rattle.std.proofs.Common.{◌≡◌, ℕ, List, [], ◌∷◌, ◌++◌, length, drop, ap, sym, ◌∙◌, refl, subst, append_assoc, inl, inr, arith}
 use Rattle.std.specs.Prelude.{◌⊎◌, ℤ, Result, Ok, Err, IfErr, IsErrAnd, codes}
 use Rattle.std.specs.Fmt.{signed_decimal}
@@ -17,13 +17,13 @@ use Rattle.cs_inputs.proofs.Splits.{same_cut}
 as_split : (text before following : List ℕ) → IsCutAtFirst text before following → SplitsBefore 61 text before (61 ∷ following)
 as_split text before following cut = record { whole = cut.whole ∙ append_assoc before (codes "=") following; none = cut.first; at = refl }
 
--- a text names one path, and one text stands after it
+-- a text begins with the text of at most one path, and so has one rest
 pub same_named : (text : List ℕ) (one other : Path) (b d : List ℕ) → NamesPath text one b → NamesPath text other d → (one ≡ other) × (b ≡ d)
 same_named text one other b d r s =
     let cut = same_cut 61 text r.before s.before (61 ∷ b) (61 ∷ d) (as_split text r.before b r.cut) (as_split text s.before d s.cut) in
     (same_path s.before one other (subst (λ (t : List ℕ). IsTextOf t one) cut.0 r.names) s.names, ap (drop 1) cut.1)
 
--- ---- an input has one text's path and number
+-- ---- an input's text has one path and one number
 named : (text : List ℕ) (path : Path) (number : ℤ) → (h : SpellsInput text path number) → NamesPath text path h.spelling
 named text path number h = record {
   before = path_text path;
@@ -36,7 +36,7 @@ same_input text one other m n r s =
     let names = same_named text one other r.spelling s.spelling (named text one m r) (named text other n s) in
     (names.0, same_value s.spelling m n (subst (λ (t : List ℕ). SpellsNumber t m) names.1 r.spells) s.spells)
 
--- ---- a text is refused for one reason, and no input's text is
+-- ---- a text is refused for one reason, and the text of an input for none
 not_refused : (text : List ℕ) (path : Path) (number : ℤ) → SpellsInput text path number → (refusal : PathRefusal) → IsRefusedFor refusal text → ⊥
 not_refused text path number h BadPath r = r path h.spelling (named text path number h)
 not_refused text path number h BadNumber r =
@@ -63,7 +63,7 @@ one_refusal text TooWide TooWide r s = refl
 one_refusal text TooWide Memory r s = absurd s
 one_refusal text Memory other r s = absurd r
 
--- ---- a right answer is the only one
+-- ---- a right result is the only one
 abbrev pub IsRight : List ℕ → Result (Path × ℤ) PathRefusal → Type 0
 IsRight text (Ok input) = SpellsInput text input.0 input.1
 IsRight text (Err refusal) = IsRefusedFor refusal text ⊎ (refusal ≡ Memory)
@@ -90,7 +90,7 @@ pub round_trip : (text : List ℕ) (r : Result (Path × ℤ) PathRefusal) → Is
 round_trip text r h path number has within is =
     accepts text r h path number (record { spelling = signed_decimal number; has_text = has; is = is; spells = spelled number within; within = within })
 
--- ---- what `parse` answers is right
+-- ---- the result of `parse` is right
 cut_is : (text before following number : List ℕ) (separator : ℕ) → SplitsBefore 61 text before following → following ≡ separator ∷ number
     → IsCutAtFirst text before number
 cut_is text before [] number separator cut is = absurd (no_tail separator number (sym is))

@@ -1,4 +1,4 @@
--- The number that a text represents, and that it is unique: for `number_of` and `parse`.
+-- The number of a text, and that it is unique: for `number_of` and `parse`.
 use Rattle.std.proofs.Common.{◌≡◌, ℕ, ◌<◌, ◌^◌, suc, true, List, ◌∷◌, ◌++◌, drop, ap, sym, ◌∙◌, refl, subst, arith, inl, inr}
 use Rattle.std.proofs.Common.{lit<}
 use Rattle.std.specs.Int.{w128}
@@ -15,7 +15,7 @@ use Rattle.cs_inputs.specs.InputText.{is_digit, AreDigits, AreDigitsOf, SpellsNu
 use Rattle.cs_inputs.specs.Reading.{IsMagnitudeRead, IsNumberRead}
 use Rattle.cs_inputs.proofs.DecimalTexts.{own}
 
--- ---- a text spells one number
+-- ---- a text has one number
 no_sign : (digits : List ℕ) (rest : List ℕ) → list_all is_digit digits ≡ true → digits ≡ codes "-" ++ rest → ⊥
 no_sign digits rest all e = false≢true (ap (list_all is_digit) (sym e) ∙ all)
 
@@ -30,7 +30,7 @@ same_value text m n (inr one) (inr other) =
     let values : digits_value 10 one.0 ≡ digits_value 10 other.0 = ap (digits_value 10) digits in
     omega (arith, ints)
 
--- ---- why digits aren't read
+-- ---- why digits are refused
 pub minus_refused : (text digits : List ℕ) → text ≡ 45 ∷ digits
     → (refusal : PathRefusal) (r : Result ℤ PathRefusal) → IsMagnitudeRead digits (Err refusal) → IsErrAnd r (λ e. e ≡ refusal)
     → IsNumberRead text r
@@ -79,7 +79,7 @@ too_low text digits magnitude is are value low = (
   λ within. let h = within.from_least in omega (arith, ints),
 )
 
--- ---- the text that a number is printed as
+-- ---- the text of a number
 pub digits_of : (n : ℕ) → n < 2 ^ 64 → AreDigitsOf (decimal n) (pos n)
 digits_of n fits = record {
   are_digits = record {
@@ -96,7 +96,7 @@ spelled (negsuc n) within = let low = within.from_least in let digits = digits_o
     let opposite : pos 0 -ℤ negsuc n ≡ pos (suc n) = omega (arith, ints) in
     inr (decimal (suc n), refl, record { are_digits = digits.are_digits; value = opposite ∙ digits.value })
 
--- an input's number is one of 128 bits
+-- an input's number fits in 128 bits
 pub fits_machine : (number : ℤ) → IsInputNumber number → FitsSigned w128 number
 fits_machine (pos n) within = let high = within.to_greatest in omega (arith, ints)
 fits_machine (negsuc n) within = let low = within.from_least in omega (arith, ints)

@@ -1,4 +1,4 @@
--- Path order is a total order in which distinct paths differ: for the contracts of `Inputs`.
+-- Path order is a total order, in which only equal paths compare as equal: for the contracts of `Inputs`.
 use Rattle.std.proofs.Common.{◌≡◌, ℕ, zero, suc, List, [], ◌∷◌, sym, ◌∙◌, ap, refl, subst}
 use Rattle.std.specs.Cmp.{IsTotalOrder, on_total, then_total}
 use Rattle.std.specs.Cmp.Lexicographic.{slice_cmp, nat_list_cmp_total}
@@ -11,7 +11,7 @@ use Rattle.cs_inputs.specs.declared.path.Root.TheVariants.{Param, Global, Call, 
 use Rattle.cs_inputs.specs.declared.path.Path.{Path}
 use Rattle.cs_inputs.specs.PathOrder.{root_order, path_order}
 
--- a root as a list of numbers whose order is the root's
+-- a root as a list of numbers, with the same order
 root_key : Root → List ℕ
 root_key (Param name) = 0 ∷ name
 root_key (Global name) = 1 ∷ name
@@ -63,7 +63,7 @@ path_order-total =
     let cells : IsTotalOrder (λ (a b : Path). slice_cmp nat_cmp a.cells b.cells) = on_total (λ (p : Path). p.cells) nat_list_cmp_total in
     then_total roots cells
 
--- the root that has a key
+-- the root with a key
 root_with : List ℕ → Root
 root_with [] = Param []
 root_with (zero ∷ name) = Param name
@@ -94,7 +94,7 @@ both_tie Less second e = absurd (cc)
 both_tie Equal second e = (refl, e)
 both_tie Greater second e = absurd (cc)
 
--- paths that the order does not tell apart are the same
+-- paths that compare as equal are the same
 pub path_order-tie : (a b : Path) → path_order a b ≡ Equal → a ≡ b
 path_order-tie a b e =
     let ties = both_tie (root_order a.root b.root) (slice_cmp nat_cmp a.cells b.cells) e in

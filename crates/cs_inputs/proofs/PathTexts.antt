@@ -38,7 +38,7 @@ module _ (text root cells : List ℕ) (cut : SplitsBefore 64 text root cells) (p
     is = (same_cut 64 text (root_text path.root) root (cells_text path.cells) cells (cut_at_cells text path t) cut).1;
   }
 
--- without a root, without cells, or where the root takes no such cells, there is no path
+-- without a root, without cells, or with cells that the root can't have, there is no path
 pub no_root : (text root cells : List ℕ) → SplitsBefore 64 text root cells → ((r : Root) → IsRootOf root r → ⊥)
     → (path : Path) → IsTextOf text path → ⊥
 no_root text root cells cut none path t = none path.root (root_is text root cells cut path t)
@@ -54,7 +54,7 @@ not_taken text root cells cut r cs is are none path t =
     let lists = same_cells cells path.cells cs (cells_are text root cells cut path t) are in
     none (subst (λ (q : Root). TakesCells q cs) roots (subst (λ (os : List ℕ). TakesCells path.root os) lists t.has_text.takes))
 
--- ---- one path has a text
+-- ---- a text has one path
 pub same_path : (text : List ℕ) (one other : Path) → IsTextOf text one → IsTextOf text other → one ≡ other
 same_path text one other r s =
     let cut = cut_at_cells text other s in
@@ -64,7 +64,7 @@ same_path text one other r s =
     (record { fit = s.has_text.cells; is = refl }) in
     λ i. record { root = roots i; cells = lists i }
 
--- ---- no `=` stands in a path's text
+-- ---- a path's text has no `=`
 abbrev is_path_byte : ℕ → Bool
 is_path_byte b = is_root_byte b || (b == 64)
 
@@ -87,7 +87,7 @@ without_equals path h =
     (all_append (root_text path.root) (cells_text path.cells)
     (all_weaker is_root_byte is_path_byte root_in_path (root_text path.root) (root_bytes path.root h.root)) (cells_bytes path.cells h.cells))
 
--- ---- a refusal is passed on
+-- ---- an error is returned
 pub passed_on : {X Y : Type 0} (P : X → Type 0) (Q : Y → Type 0) → (((x : X) → P x → ⊥) → (y : Y) → Q y → ⊥)
     → (refusal : PathRefusal) (r : Result Y PathRefusal) → Reads {X = X} P (Err refusal) → IsErrAnd r (λ e. e ≡ refusal) → Reads Q r
 passed_on P Q none refusal (Ok y) h e = absurd e

@@ -21,7 +21,7 @@ use Rattle.cs_inputs.proofs.Splits.{both, same_cut, all_weaker, all_without}
 apart : (a b : List ℕ) → a ≡ b → eqb (get_or a 0 0) (get_or b 0 0) ≡ false → ⊥
 apart a b e h = false≢true (sym h ∙ eq-eqb (get_or a 0 0) (get_or b 0 0) (ap (λ (t : List ℕ). get_or t 0 0) e))
 
--- a text that is no name
+-- a text that isn't a name
 unnamed : (name text : List ℕ) → is_name name ≡ true → name ≡ text → is_name text ≡ false → ⊥
 unnamed name text named e h = false≢true (sym h ∙ sym (ap is_name e) ∙ named)
 
@@ -29,7 +29,7 @@ pub no_tail : (b : ℕ) (bs : List ℕ) → b ∷ bs ≡ [] → ⊥
 no_tail b bs e = absurd (omega (arith, ap length e))
 
 -- ---- roots by their texts' first bytes
--- what begins with a `$` is a global
+-- a text that begins with `$` is that of a global
 pub after_dollar : (rest : List ℕ) (root : Root) → IsRootOf (codes "$" ++ rest) root → (root ≡ Global rest) × (is_name rest ≡ true)
 after_dollar rest (Param name) r = absurd (unnamed _ _ r.has_text r.is refl)
 after_dollar rest (Global name) r = let same : name ≡ rest = ap (drop 1) r.is in (ap Global same, subst (λ n. is_name n ≡ true) same r.has_text)
@@ -37,7 +37,7 @@ after_dollar rest (Call k) r = absurd (apart _ _ r.is refl)
 after_dollar rest (Wrote k a) r = absurd (apart _ _ r.is refl)
 after_dollar rest (Malloc k) r = absurd (apart _ _ r.is refl)
 
--- a call's number, alone or with an argument's after a `.`
+-- the number of a call, without or with the number of an argument after a `.`
 pub record IsCallWith (numbers : List ℕ) (root : Root) (call : ℕ) : Type 0 where
   pub is : root ≡ Call call
   pub counts : IsCount call
@@ -49,7 +49,7 @@ pub record IsWroteWith (numbers : List ℕ) (root : Root) (call argument : ℕ) 
   pub few : argument ≤ 400000
   pub text : decimal call ++ (46 ∷ decimal argument) ≡ numbers
 
--- what begins with `call#` is the result of a call, or what it wrote
+-- a text that begins with `call#` is that of a call's result, or of what the call wrote
 pub following_call : (rest : List ℕ) (root : Root) → IsRootOf (codes "call#" ++ rest) root
     → ((k : ℕ) × IsCallWith rest root k) ⊎ ((k : ℕ) × (a : ℕ) × IsWroteWith rest root k a)
 following_call rest (Param name) r = absurd (unnamed _ _ r.has_text r.is refl)
@@ -60,7 +60,7 @@ following_call rest (Wrote k a) r =
     inr (k, a, record { is = refl; counts = r.has_text.0; few = r.has_text.1; text = sym (append_assoc (decimal k) (46 ∷ []) (decimal a)) ∙ same })
 following_call rest (Malloc k) r = absurd (apart _ _ r.is refl)
 
--- what begins with `malloc#` is an allocation
+-- a text that begins with `malloc#` is that of an allocation
 pub after_malloc : (rest : List ℕ) (root : Root) → IsRootOf (codes "malloc#" ++ rest) root
     → (k : ℕ) × (root ≡ Malloc k) × IsCount k × (decimal k ≡ rest)
 after_malloc rest (Param name) r = absurd (unnamed _ _ r.has_text r.is refl)
@@ -80,7 +80,7 @@ cut_at_call numbers first following k fits rest at is cut =
     let same = same_cut 46 numbers first (decimal k) following rest cut (record { whole = sym is; none = digits_without_dot k fits; at = at }) in
     (record { fits = fits; is = sym same.0 }, same.1)
 
--- without a call's number there is no root
+-- without the number of a call there is no root
 pub no_call : (numbers first following : List ℕ) → SplitsBefore 46 numbers first following → ((k : ℕ) → IsDecimalOf first k × IsCount k → ⊥)
     → (root : Root) → IsRootOf (codes "call#" ++ numbers) root → ⊥
 no_call numbers first following cut none root r = either (following_call numbers root r)
@@ -89,7 +89,7 @@ no_call numbers first following cut none root r = either (following_call numbers
     either (inl (k, call)) = none k ((cut_at_call numbers first following k call.counts.fits [] tt (append-nil (decimal k) ∙ call.text) cut).0, call.counts)
     either (inr (k, a, wrote)) = none k ((cut_at_call numbers first following k wrote.counts.fits (46 ∷ decimal a) refl wrote.text cut).0, wrote.counts)
 
--- without an argument's number after the `.` there is no root
+-- without the number of an argument after the `.` there is no root
 pub no_argument : (numbers first following argument : List ℕ) (separator : ℕ) → SplitsBefore 46 numbers first following
     → following ≡ separator ∷ argument
     → ((a : ℕ) → IsDecimalOf argument a × (a ≤ 400000) → ⊥) → (root : Root) → IsRootOf (codes "call#" ++ numbers) root → ⊥
@@ -104,14 +104,14 @@ no_argument numbers first following argument separator cut is none root r = eith
         let few = wrote.few in
         none a (record { fits = omega arith; is = text }, few)
 
--- no such number of calls or arguments
+-- a number of calls or arguments can't be 0
 pub no_count : (text : List ℕ) (n : ℕ) → IsDecimalOf text n → n ≡ 0 → (m : ℕ) → IsDecimalOf text m × IsCount m → ⊥
 no_count text n d z m other = let same = same_number text n m d other.0 in let from_one = other.1.from_one in omega arith
 
 pub no_few : (text : List ℕ) (n : ℕ) → IsDecimalOf text n → 400000 < n → (m : ℕ) → IsDecimalOf text m × (m ≤ 400000) → ⊥
 no_few text n d far m other = let same = same_number text n m d other.0 in let few = other.1 in omega arith
 
--- ---- one root has a text
+-- ---- a text has one root
 named_root : (text : List ℕ) → is_name text ≡ true → (root : Root) → IsRootOf text root → root ≡ Param text
 named_root text named (Param name) r = ap Param r.is
 named_root text named (Global name) r = absurd (unnamed _ _ named (sym r.is) refl)
@@ -163,7 +163,7 @@ same_root text (Wrote k a) other r s =
     (record { has_text = s.has_text; is = s.is ∙ sym r.is }))
 same_root text (Malloc k) other r s = sym (malloc_root k r.has_text other (record { has_text = s.has_text; is = s.is ∙ sym r.is }))
 
--- ---- which bytes stand in a root's text
+-- ---- the bytes of a root's text
 abbrev pub is_root_byte : ℕ → Bool
 is_root_byte b = is_name_byte b || ((b == 36) || ((b == 35) || (b == 46)))
 

@@ -17,7 +17,7 @@ use Rattle.std.proofs.lemmas.Map.Keys.{Less-from_sorted}
 use Rattle.std.proofs.lemmas.Map.Entries.{length-keys_of}
 
 module _ {K : Type 0} {R : K → K → Ordering} (o : IsTotalOrder R) where
-  -- ---- the order read the other way round
+  -- ---- the order, reversed
   pub flip-Less : (x y : K) → R x y ≡ Less → R y x ≡ Greater
   flip-Less x y e = o.antisymm y x ∙ ap ordering_reverse e
 
@@ -40,7 +40,7 @@ module _ {K : Type 0} {R : K → K → Ordering} (o : IsTotalOrder R) where
   through x y (z ∷ zs) e h = (o.trans x y z e h.0, through x y zs e h.1)
 
 module _ {K X : Type 0} {R : K → K → Ordering} (o : IsTotalOrder R) where
-  -- the keys before a place are below those from it on
+  -- a key below all keys of a list is below the one at each index
   below : (e : K × X) (es : List (K × X)) (j : ℕ) (d : K × X) → AllByRecursion (λ y. R e.0 y ≡ Less) (keys_of es) → j < length es
       → R e.0 (get_or es j d).0 ≡ Less
   below e [] j d h p = absurd (omega arith)
@@ -118,7 +118,7 @@ module _ {K X : Type 0} {R : K → K → Ordering} (o : IsTotalOrder R) where
         λ j d low high. h.1 (suc j) d (omega arith) (omega arith),
       )) ∙ sym (ap (λ t. match_ordering t ((k, v) ∷ f ∷ fs) ((f.0, v) ∷ fs) (f ∷ insert_entry R fs k v)) past)
 
-  -- keys stay above a lesser one
+  -- keys remain above a lesser one
   above-insert : (x : K) (es : List (K × X)) (k : K) (v : X) → R x k ≡ Less → AllByRecursion (λ y. R x y ≡ Less) (keys_of es)
       → AllByRecursion (λ y. R x y ≡ Less) (keys_of (insert_entry R es k v))
   above-insert x [] k v e h = (e, tt)
@@ -142,7 +142,7 @@ module _ {K X : Type 0} {R : K → K → Ordering} (o : IsTotalOrder R) where
       at Equal is rest = (h.0, h.1)
       at Greater is rest = (above-insert f.0 fs k v (flip-Greater o k f.0 is) h.0, rest)
 
-  -- the key has its value
+  -- the key has its new value
   pub lookup_here : (es : List (K × X)) (k : K) (v : X) → lookup (is_at (R k)) (insert_entry R es k v) ≡ Some v
   lookup_here [] k v = ap (λ t. cond (is_eq t) (Some v) None) (self-Equal o k)
   lookup_here (f ∷ fs) k v = at (R k f.0) refl (lookup_here fs k v)
@@ -153,7 +153,7 @@ module _ {K X : Type 0} {R : K → K → Ordering} (o : IsTotalOrder R) where
       at Equal is rest = ap (λ t. cond (is_eq t) (Some v) (lookup (is_at (R k)) fs)) is
       at Greater is rest = ap (λ t. cond (is_eq t) (Some f.1) (lookup (is_at (R k)) (insert_entry R fs k v))) is ∙ rest
 
-  -- and every other key its own
+  -- and every other key has its own
   pub lookup_elsewhere : (es : List (K × X)) (k q : K) (v : X) → is_eq (R q k) ≡ false
       → lookup (is_at (R q)) (insert_entry R es k v) ≡ lookup (is_at (R q)) es
   lookup_elsewhere [] k q v n = ap (λ t. cond t (Some v) None) n

@@ -1,4 +1,4 @@
--- A text is split before its first separator in only one way: for `split_before` and all that parses parts of a text.
+-- A text has only one cut before its first separator: for `split_before` and all functions that read parts of a text.
 use Rattle.std.proofs.Common.{◌≡◌, ℕ, ◌+◌, ◌<◌, Bool, true, false, not, ◌&&◌, eqb, eqb-true, List, [], ◌∷◌, ◌++◌, length, take}
 use Rattle.std.proofs.Common.{drop, get_or, ap, sym, ◌∙◌, refl, arith}
 use Rattle.std.specs.Prelude.{◌==◌}
@@ -12,7 +12,7 @@ pub both : (a b : Bool) → (a && b) ≡ true → (a ≡ true) × (b ≡ true)
 both true b h = (refl, h)
 both false b h = absurd (cc)
 
--- what each byte passes, it passes in a weaker test
+-- bytes that all pass a test also pass a weaker one
 pub all_weaker : (p q : ℕ → Bool) → ((b : ℕ) → p b ≡ true → q b ≡ true) → (bs : List ℕ) → list_all p bs ≡ true
     → list_all q bs ≡ true
 all_weaker p q weaker [] h = refl
@@ -20,7 +20,7 @@ all_weaker p q weaker (b ∷ bs) h =
     let parts = both (p b) (list_all p bs) h in
     ap (λ t. t && list_all q bs) (weaker b parts.0) ∙ all_weaker p q weaker bs parts.1
 
--- a separator that fails the test isn't among bytes that pass it
+-- a separator that fails a test isn't among bytes that pass it
 pub all_without : (p : ℕ → Bool) (separator : ℕ) → p separator ≡ false → (bs : List ℕ) → list_all p bs ≡ true
     → list_all (λ b. not (b == separator)) bs ≡ true
 all_without p separator fails bs h = all_weaker p (λ b. not (b == separator)) (λ b passes. other b (b == separator) refl passes) bs h
@@ -55,7 +55,7 @@ splits_at_first separator xs before following front back whole = record {
   at = at_rest separator xs following (position_or_len (λ b. b == separator) xs) back (passes_at_first (λ b. b == separator) xs 0);
 }
 
--- ---- there is one cut
+-- ---- the cut is unique
 marked : (separator x : ℕ) (xs b : List ℕ) → b ≡ x ∷ xs → IsEmptyOrAt separator b → not (x == separator) ≡ true → ⊥
 marked separator x xs [] e at n = absurd (cc)
 marked separator x xs (y ∷ ys) e at n = let same : x ≡ separator = cc in grind (arith, nat_tests)

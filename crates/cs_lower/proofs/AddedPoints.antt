@@ -1,4 +1,4 @@
--- The control points that composed code adds: for the control points of what is built.
+-- The control points that combined code adds: for the control points of what is built.
 use Rattle.std.proofs.Common.{ℕ, List, [], ◌∷◌, ◌++◌, Option, refl}
 use Rattle.cs_ast.specs.declared.place.Place.{Place}
 use Rattle.cs_ast.specs.TypedTree.{Typed, Statement, Statements, IfElse, For}
@@ -14,11 +14,11 @@ use Rattle.cs_cfg.proofs.Fitting.{includes_second, includes_both, includes_one, 
 use Rattle.cs_lower.specs.Building.{jump_to}
 
 module _ {flow : Flow} where
-  -- all blocks but the first
+  -- all blocks except the first
   pub adds_less : {block : Point} {blocks : List Point} → AddsPoints flow [] (block ∷ blocks) blocks
   adds_less = record { keeps = λ all includes fit. fit_others fit }
 
-  -- an `if` with an `else`, which is put together before the other way
+  -- an `if` with an `else`, whose other branch is built first
   pub if_else_adds : (at : Place) (test : Typed) (body other : Statement) (to : Targets) (following : Next)
       (one two end : ℕ) {old with_other with_both new : List Point} →
       MeetsNext flow (block_of flow one) (starts to body following) → MeetsNext flow (block_of flow two) (starts to other following)
@@ -38,7 +38,7 @@ module _ {flow : Flow} where
         tests.keeps all (includes_first in_test in_body first_two) (fit_split at 0 one two (includes_one includes) one_met two_met both);
   }
 
-  -- a `for`, whose first part is put together between the loop and its head
+  -- a `for`, whose first clause is built after the loop and before the block of its head
   pub for_adds : (at : Place) (beginning : Statements) (test last : Option Typed) (body : Statement) (to : Targets) (following : Next) (head : ℕ)
       (p r : Point) {old with_loop with_first new : List Point} →
       MeetsNext flow r (for_test at test (starts (in_loop to following (first_some last (met point.Head at))) body (first_some last (met point.Head at)))) →

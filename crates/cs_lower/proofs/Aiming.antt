@@ -1,4 +1,4 @@
--- The targets of `break`, `continue` and `goto`, inside loops too: for the control points of statements.
+-- Where `break`, `continue` and `goto` lead, inside of loops too: for the control points of statements.
 use Rattle.cs_ast.specs.TypedProgram.{TypedProgram, Routine}
 use Rattle.cs_cfg.specs.ControlPoints.{Next, Targets, in_loop, in_switch}
 use Rattle.cs_cfg.specs.Graph.{Point, Flow}
@@ -7,7 +7,7 @@ use Rattle.cs_cfg.proofs.Starting as starting
 use Rattle.cs_lower.specs.Statements.{labels_in, Aims}
 
 module _ {program : TypedProgram} {routine : Routine} {flow : Flow} {to : Targets} {out again : Point} where
-  -- the same, for the lemmas on what is met first
+  -- the same, for the lemmas on the first control point
   pub aims_of : Aims program routine flow to out again → starting.Aims program flow routine (labels_in routine flow) to out again
   aims_of aims = record { out_meets = aims.out_meets; again_meets = aims.again_meets; labels_meet = aims.labels_meet }
 

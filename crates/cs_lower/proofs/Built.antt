@@ -1,4 +1,4 @@
--- What was built, and what extends it: for the contracts of `GraphBuilder`, and for every lemma on what is built in several steps.
+-- How built code grows: for the contracts of `GraphBuilder`, and for every lemma on code that is built part by part.
 use Rattle.std.proofs.Common.{◌≡◌, ℕ, zero, suc, ◌+◌, List, [], ◌∷◌, ◌++◌, length, map, reverse, Option, Some, refl, sym, ap, subst}
 use Rattle.std.proofs.Common.{◌∙◌, arith}
 use Rattle.std.specs.Prelude.{Contains, slice_get, unwrap_or}
@@ -17,7 +17,7 @@ use Rattle.cs_lower.specs.Sealing.{Seals, SealsCountedPoint}
 use Rattle.cs_lower.proofs.Integers.{integers_past, integers_among}
 
 module _ {X : Type 0} where
-  -- what is in a list stays where it is when more comes after
+  -- an element of a list keeps its index if more is appended
   kept : (xs ys : List X) (n : ℕ) (x : X) → slice_get xs n ≡ Some x → slice_get (xs ++ ys) n ≡ Some x
   kept [] ys n x e = cc
   kept (y ∷ xs) ys zero x e = e
@@ -39,7 +39,7 @@ module _ {X : Type 0} where
       let e = longer xs x in
       omega arith
 
-  -- where an element is from the end
+  -- the index of an element in the reversed list
   from_end : (xs : List X) (n m : ℕ) (x : X) → slice_get xs n ≡ Some x → m + suc n ≡ length xs → slice_get (reverse xs) m ≡ Some x
   from_end [] n m x e h = cc
   from_end (y ∷ xs) zero m x e h =
@@ -49,7 +49,7 @@ module _ {X : Type 0} where
   from_end (y ∷ xs) (suc n) m x e h =
       ap (λ (l : List X). slice_get l m) (reverse-append (y ∷ []) xs) ∙ kept (reverse xs) (y ∷ []) m x (from_end xs n m x e (omega arith))
 
--- a list in reverse, seen as another
+-- a mapped list, reversed
 pub map_reverse : {X Y : Type 0} (f : X → Y) (xs : List X) → map f (reverse xs) ≡ reverse (map f xs)
 map_reverse f [] = refl
 map_reverse f (x ∷ xs) =
@@ -57,7 +57,7 @@ map_reverse f (x ∷ xs) =
     ∙ (map-append f (reverse xs) (x ∷ [])
     ∙ (ap (λ l. l ++ f x ∷ []) (map_reverse f xs) ∙ sym (reverse-append (f x ∷ []) (map f xs))))
 
--- nothing more, and more and more
+-- growth is reflexive and transitive
 pub nothing_more : (built : Built) → Grows 0 built built
 nothing_more built = record { same = refl; counts = omega arith; keeps = λ flow has. has }
 
@@ -71,12 +71,12 @@ more_and_more m n k first second e =
       keeps = λ flow has. first.keeps flow (second.keeps flow has);
     }
 
--- the same where no counted points are among it
+-- the same without counted points
 pub grows_on : {old mid new : Built} → Grows 0 old mid → Grows 0 mid new → Grows 0 old new
 grows_on first second = more_and_more 0 0 0 first second refl
 
 module _ {X : Type 0} where
-  -- what is in a list is among more, and so is the rest of a list
+  -- the elements of a list are among those of a longer one, and so are those of its tail
   among_left : (xs ys : List X) → All (Contains (xs ++ ys)) xs
   among_left xs ys = All-weaker (Contains xs) (Contains (xs ++ ys)) (λ x in_xs. Contains-append_left xs ys x in_xs) xs (All-contains_itself xs)
 
@@ -86,7 +86,7 @@ module _ {X : Type 0} where
   pub among_rest : (x : X) (xs : List X) → All (Contains (x ∷ xs)) xs
   among_rest x xs = among_right (x ∷ []) xs
 
-  -- a list with one more at its end
+  -- a list with one more element at its end
   among_last : (x : X) (xs ys : List X) → All (Contains (x ∷ (xs ++ ys))) (xs ++ (ys ++ x ∷ []))
   among_last x xs ys =
       let whole = x ∷ (xs ++ ys) in
@@ -97,7 +97,7 @@ module _ {X : Type 0} where
       (All-append (Contains whole) ys (x ∷ []) (wider ys (among_right xs ys))
       (All-cons (Contains whole) x [] (All-head (Contains whole) x (xs ++ ys) (All-contains_itself whole)) (All-nil (Contains whole))))
 
-  -- a list with one more in the middle
+  -- a list with one more element in the middle
   among_middle : (x : X) (xs ys : List X) → All (Contains (x ∷ (xs ++ ys))) ((xs ++ x ∷ []) ++ ys)
   among_middle x xs ys =
       let whole = x ∷ (xs ++ ys) in
@@ -108,7 +108,7 @@ module _ {X : Type 0} where
       (All-cons (Contains whole) x [] (All-head (Contains whole) x (xs ++ ys) (All-contains_itself whole)) (All-nil (Contains whole))))
       (wider ys (among_right xs ys))
 
-  -- a list in reverse
+  -- a list, reversed
   among_reverse : (xs : List X) → All (Contains xs) (reverse xs)
   among_reverse [] = All-nil (Contains [])
   among_reverse (x ∷ xs) =
@@ -118,13 +118,13 @@ module _ {X : Type 0} where
       (All-append (Contains whole) (reverse xs) (x ∷ []) rest
       (All-cons (Contains whole) x [] (All-head (Contains whole) x xs (All-contains_itself whole)) (All-nil (Contains whole))))
 
-  -- two lists, the first in reverse
+  -- two lists, the first of them reversed
   pub among_reversed : (xs ys : List X) → All (Contains (xs ++ ys)) (reverse xs ++ ys)
   among_reversed xs ys =
       let first = All-weaker (Contains xs) (Contains (xs ++ ys)) (λ x in_xs. Contains-append_left xs ys x in_xs) (reverse xs) (among_reverse xs) in
       All-append (Contains (xs ++ ys)) (reverse xs) ys first (among_right xs ys)
 
--- the same blocks bring in nothing
+-- the same blocks add no control points
 pub adds_nothing : {flow : Flow} {some : List Point} → AddsPoints flow [] some some
 adds_nothing = record { keeps = λ points includes fit. fit }
 
@@ -144,7 +144,7 @@ pushed old p = record {
   integers = λ count. integers_among (among_last p old.heads old.others);
 }
 
--- one more block of a counted point
+-- one more block, which is that of a counted point
 pub pushed_counted_point : (old : Built) (kind : PointKind) (at : Place) (p : Point) (number : ℕ) → number + suc (length old.heads) ≡ old.counted_points
     → SealsCountedPoint old (record old { heads = old.heads ++ does at 0 (Reach kind number) p ∷ [] }) kind at p
 pushed_counted_point old kind at p number is_last = record {
@@ -170,7 +170,7 @@ pushed_counted_point old kind at p number is_last = record {
       integers_past at 0 (Reach kind number) p tt (integers_among (among_middle head old.heads old.others));
 }
 
--- a graph of all that was built
+-- a graph of all blocks that were built
 pub whole : (heads others : List Point) (entry counted_points : ℕ) → length heads ≡ counted_points
     → Has (record { blocks = reverse heads ++ others; entry = entry; counted_points = counted_points })
     (record { counted_points = counted_points; heads = heads; others = others })
@@ -183,7 +183,7 @@ whole heads others entry counted_points all = record {
       ap (λ (q : Option Point). unwrap_or q no_point) (ap (slice_get (reverse heads ++ others)) at ∙ (following (reverse heads) others n ∙ got));
 }
 
--- the same of what is known to be more
+-- the same for a list and a block that are known to be equal to these
 pub sealed : (old new : Built) (block : ℕ) (p : Point) → new ≡ record old { others = old.others ++ p ∷ [] }
     → block ≡ old.counted_points + length old.others → Seals old new block p
 sealed old new block p is number =
@@ -196,6 +196,6 @@ pub sealed_counted_point : (old new : Built) (kind : PointKind) (at : Place) (p 
 sealed_counted_point old new kind at p number is last =
     subst (λ (b : Built). SealsCountedPoint old b kind at p) (sym is) (pushed_counted_point old kind at p number last)
 
--- one more at the end of a list, seen as another
+-- a mapped list with one more element at its end
 pub map_push : {X Y : Type 0} (f : X → Y) (xs new : List X) (x : X) (y : Y) → new ≡ xs ++ x ∷ [] → f x ≡ y → map f new ≡ map f xs ++ y ∷ []
 map_push f xs new x y is seen = ap (map f) is ∙ (map-append f xs (x ∷ []) ∙ ap (λ z. map f xs ++ z ∷ []) seen)

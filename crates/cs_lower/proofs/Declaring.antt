@@ -35,7 +35,7 @@ all_have (Evaluated offset e ∷ others) more a b = (a.0, all_have others more a
 all_have (Spelled offset bytes ∷ others) more a b = all_have others more a b
 
 mutual
-  -- the pieces of an initializer have what it has
+  -- if the allocations of an initializer have their arguments, so do those of its pieces
   pieces_have : (program : TypedProgram) (shape : Shape) (from : ℕ) (initial : Initial) → InitialHasArguments initial
       → PiecesHaveArguments (pieces program shape from initial)
   pieces_have program shape from (Value e) has = (has, tt)
@@ -92,7 +92,7 @@ module _ {flow : Flow} where
   adds_before (Evaluated offset e) others following rest one = adds_both rest (as_value offset e (first_pieces others following) one)
   adds_before (Spelled offset bytes) others following rest one = then_nothing rest one
 
--- the object becomes zero before its pieces are stored
+-- the object is set to zero before its pieces are stored
 zeroed_first : (program : TypedProgram) {flow : Flow} {at : Place} {declaration : ℕ} {old new : List Point} {p r : Point} (shape : Shape) (initial : Initial)
     (following : Next) → p ≡ does at 0 (graph.Zero declaration) r
     → AddsPoints flow (points_pieces (pieces program shape 0 initial) following) old (r ∷ new)
@@ -102,7 +102,7 @@ zeroed_first program {flow = flow} {at = at} {declaration = declaration} {old = 
     (same_before zeroed (then_nothing stored (adds_silent at 0 (graph.Zero declaration) r refl)))
 
 module _ {program : TypedProgram} {routine : Routine} where
-  -- a value is stored
+  -- the store of a value
   pub value_stored : {at : Place} {declaration offset : ℕ} {e : Typed} {ty : Shape} {scalar : Bool} {old new : Built} {p s q : Point} → ty ≡ type_of e
       → scalar ≡ is_scalar (type_in routine declaration) → s ≡ does at 0 (graph.StoreLocal declaration offset ty scalar) q
       → Uses program e 0 old new p s → StoresPieces program routine at declaration (Evaluated offset e ∷ []) old new p q
@@ -120,7 +120,7 @@ module _ {program : TypedProgram} {routine : Routine} where
         integers = λ count below ints. integers_past at 0 store q below (integers_after is (h.integers count ints.0));
       }
 
-  -- a text is stored
+  -- the store of a string literal
   pub text_stored : {at : Place} {declaration offset : ℕ} {bytes : List ℕ} {built : Built} {p q : Point}
       → p ≡ does at 0 (graph.Spell declaration offset bytes) q → StoresPieces program routine at declaration (Spelled offset bytes ∷ []) built built p q
   text_stored {at = at} {declaration = declaration} {offset = offset} {bytes = bytes} {built = built} {q = q} is = record {
@@ -148,7 +148,7 @@ module _ {program : TypedProgram} {routine : Routine} where
         integers_both (rest.integers count below both.1) (first.integers count below both.0);
   }
 
-  -- one more of a row that is lowered from its end
+  -- one more piece of a list, whose last one is lowered first
   pub stored_further : {at : Place} {declaration : ℕ} {old mid new : Built} {p r q : Point} (row : List CodePiece) (left : ℕ) (one : CodePiece)
       → 1 ≤ left → left ≤ length row → one ≡ get_or row (left - 1) one
       → StoresPieces program routine at declaration (map piece_of (drop left row)) old mid r q
@@ -161,7 +161,7 @@ module _ {program : TypedProgram} {routine : Routine} where
       ∙ (ap (λ x. x ∷ drop (suc (left - 1)) row) (sym is) ∙ ap (λ (n : ℕ). one ∷ drop n row) (sym next)) in
       subst (λ l. StoresPieces program routine at declaration (map piece_of l) old new p q) (sym cut) (stored_then rest first)
 
-  -- a declaration without an initializer, with a value, and with parts or a text
+  -- a declaration without an initializer, with a value, and with parts or a string literal
   pub declared_unset : {at : Place} {declaration : ℕ} {built : Built} {p q : Point}
       → p ≡ does at 0 (graph.Clear declaration (is_scalar (type_in routine declaration))) q → Declares program routine at declaration None built built p q
   declared_unset {at = at} {declaration = declaration} {built = built} {q = q} is = record {

@@ -1,4 +1,4 @@
--- The code of consecutive expressions: for the contracts of the functions that `lower_expression` calls.
+-- The code of expressions, one after another: for the contracts of the functions that `lower_expression` calls.
 use Rattle.std.proofs.Common.{◌≡◌, ℕ, ℤ, suc, ◌+◌, ◌-◌, ◌≤◌, pos, List, ◌∷◌, length, drop, get_or, drop-cons, refl, sym, ap}
 use Rattle.std.proofs.Common.{subst}
 use Rattle.std.proofs.Common.{◌∙◌, arith}
@@ -26,14 +26,14 @@ use Rattle.cs_lower.proofs.Built.{nothing_more, grows_on, adds_nothing}
 use Rattle.cs_lower.proofs.Integers.{integers_both, integers_end, integers_past, integers_after, used_integers}
 
 module _ {flow : Flow} {some : List ControlPoint} where
-  -- the point after code may be seen as another that it is, and so may the point before it
+  -- the point after the code can be replaced by an equal one, and so can the point before it
   pub same_after : {old new : List Point} {s t : Point} → s ≡ t → AddsPoints flow some (s ∷ old) new → AddsPoints flow some (t ∷ old) new
   same_after {old = old} {new = new} is adds = subst (λ r. AddsPoints flow some (r ∷ old) new) is adds
 
   pub same_before : {old new : List Point} {p t : Point} → p ≡ t → AddsPoints flow some old (t ∷ new) → AddsPoints flow some old (p ∷ new)
   same_before {old = old} {new = new} is adds = subst (λ r. AddsPoints flow some old (r ∷ new)) (sym is) adds
 
--- the two ways of `&&` and `||`, of which one makes a truth of a number and the other knows it, and the test before them
+-- the two branches of `&&` and `||`, of which one computes the truth of a number and the other is a constant, and the test before them
 judged_integers : {count one other : ℕ} {old sealed with_way with_both new : List Point} {q p : Point} (at : Place) (number end : ℕ) (known : ℤ)
     → AddsIntegers count (q ∷ old) sealed → AddsIntegers count (does at number graph.Judge (jump_to end) ∷ sealed) with_way
     → AddsIntegers count (does at number (graph.Number known) (jump_to end) ∷ with_way) with_both
@@ -43,7 +43,7 @@ judged_integers at number end known ends way knows tests =
     (integers_both (integers_end (integers_past at number (graph.Number known) (jump_to end) tt knows)) (integers_end tests)))
 
 module _ (program : TypedProgram) (flow : Flow) where
-  -- a jump to a block that is a point
+  -- a jump to a block leads to the point that the block is
   pub jump_joins : (end : ℕ) (q : Point) → block_of flow end ≡ q → Joins program flow (jump_to end) q
   jump_joins end q is = jumps (subst (λ p. Joins program flow p q) (sym is) there)
 
@@ -94,7 +94,7 @@ module _ {program : TypedProgram} where
         integers = λ count ints. integers_both (last.integers count ints.1) (before.integers count ints.0);
       }
 
-  -- expressions in a row
+  -- lists of expressions
   pub uses_none : (number : ℕ) (built : Built) (p : Point) → UsesAll program NoMore number built built p p
   uses_none number built p = record {
     grows = nothing_more built;
@@ -103,7 +103,7 @@ module _ {program : TypedProgram} where
     integers = λ count ints. absurd ints;
   }
 
-  -- one more of a row that is lowered from its end
+  -- one more expression of a list, whose last one is lowered first
   pub uses_further : {here : ℕ} {old mid new : Built} {p r q : Point} (row : List Expr) (left number : ℕ) (e : Expr) → 1 ≤ left → left ≤ length row
       → e ≡ get_or row (left - 1) e → here ≡ left - 1 + number
       → UsesAll program (typed_list (drop left row)) (left + number) old mid r q → Uses program (typed e) here mid new p r
@@ -152,7 +152,7 @@ module _ {program : TypedProgram} where
         integers_both (last.integers count ints.1) (integers_past at number graph.Drop r tt (integers_after is (one.integers count ints.0)));
   }
 
-  -- the ways of a branch, each of which ends with a jump to one block
+  -- the branches of an operator, each of which ends with a jump to one block
   pub ands : {at : Place} {a b : Typed} {number end one other : ℕ} {old x y z new : Built} {p q s t : Point} → Seals old x end q
       → s ≡ does at number graph.Judge (jump_to end) → UsesIn program b number x y one s
       → Seals y z other (does at number (graph.Number (pos 0)) (jump_to end)) → t ≡ split at number one other → Uses program a number z new p t

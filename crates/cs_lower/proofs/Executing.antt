@@ -1,4 +1,4 @@
--- The code of consecutive statements: for the contracts of `lower_statement` and of those that it calls.
+-- The code of statements, one after another: for the contracts of `lower_statement` and of the functions that it calls.
 use Rattle.std.proofs.Common.{◌≡◌, ℕ, suc, ◌+◌, ◌-◌, ◌≤◌, List, [], ◌∷◌, length, drop, get_or, drop-cons, Option, Some, None, refl}
 use Rattle.std.proofs.Common.{sym, ap, subst, ◌∙◌, arith}
 use Rattle.std.specs.Prelude.{option_map, unwrap_or}
@@ -32,7 +32,7 @@ use Rattle.cs_lower.proofs.Built.{nothing_more, more_and_more, adds_nothing}
 use Rattle.cs_lower.proofs.Integers.{integers_same, integers_both, integers_end, integers_past, integers_after, integers_before}
 use Rattle.cs_lower.proofs.Evaluating.{jump_joins, same_after, same_before}
 
--- where a statement stands, its counted point is so many before those after it
+-- the counted points after a statement follow those of the statement
 pub counted_point_before : {old new : Built} {count : ℕ} → Grows count old new
     → (counted_point : ℕ) → counted_point + length new.heads ≡ new.counted_points → counted_point + count + length old.heads ≡ old.counted_points
 counted_point_before grows counted_point e =
@@ -40,7 +40,7 @@ counted_point_before grows counted_point e =
     let same = grows.same in
     omega arith
 
--- the same where no counted points are between
+-- they are the same after code without counted points
 pub counted_point_stays : {old new : Built} → Grows 0 old new → (counted_point : ℕ) → counted_point + length new.heads ≡ new.counted_points
     → counted_point + length old.heads ≡ old.counted_points
 counted_point_stays grows counted_point e =
@@ -54,7 +54,7 @@ module _ {program : TypedProgram} {flow : Flow} where
   joins_on (jumps more) on = jumps (joins_on more on)
 
 module _ {program : TypedProgram} {routine : Routine} where
-  -- a statement that is another
+  -- a statement can be replaced by an equal one
   pub as_statement : {s it : Statement} {out again : ℕ} {old new : Built} {p q : Point} → s ≡ it → Executes program routine it out again old new p q
       → Executes program routine s out again old new p q
   as_statement {out = out} {again = again} {old = old} {new = new} {p = p} {q = q} is h =
@@ -221,7 +221,7 @@ module _ {program : TypedProgram} {routine : Routine} where
       led flow None = tt
       led flow (Some l) = λ e. ap (block_of flow) e
 
-  -- statements in a row, lowered from the end
+  -- lists of statements, the last of which is lowered first
   pub executes_none : (out again : ℕ) (built : Built) (p : Point) → ExecutesAll program routine Empty out again built built p p
   executes_none out again built p = record {
     grows = nothing_more built;
@@ -251,7 +251,7 @@ module _ {program : TypedProgram} {routine : Routine} where
     integers = λ count ints. integers_both (last.integers count ints.1) (one.integers count ints.0);
   }
 
-  -- one more of a row that is lowered from its end
+  -- one more statement of a list, whose last one is lowered first
   pub executes_further : {out again : ℕ} {old mid new : Built} {p r q : Point} (row : List Stmt) (left : ℕ) (s : Stmt) → 1 ≤ left
       → left ≤ length row → s ≡ get_or row (left - 1) s
       → ExecutesAll program routine (statement_list (drop left row)) out again old mid r q → Executes program routine (statement s) out again mid new p r
@@ -262,7 +262,7 @@ module _ {program : TypedProgram} {routine : Routine} where
       drop-cons row (left - 1) s (omega arith) ∙ (ap (λ x. x ∷ drop (suc (left - 1)) row) (sym is) ∙ ap (λ (n : ℕ). s ∷ drop n row) (sym next)) in
       subst (λ l. ExecutesAll program routine (statement_list l) out again old new p q) (sym cut) (executes_then last one)
 
--- the last point of statements in a row may lead on by jumps
+-- the last point of a list of statements may lead on by jumps
 pub all_on : (program : TypedProgram) (routine : Routine) (flow : Flow) (statements : Statements) (counted_point : ℕ) (out again p q r : Point)
     → all_at program flow routine (labels_in routine flow) statements counted_point out again p q → Joins program flow q r
     → all_at program flow routine (labels_in routine flow) statements counted_point out again p r

@@ -27,7 +27,7 @@ use Rattle.cs_lower.proofs.Executing.{counted_point_stays, all_on}
 use Rattle.cs_lower.proofs.Integers.{integers_both, integers_between, integers_end, integers_after}
 use Rattle.cs_lower.proofs.TurningLoops.{after_head}
 
--- what is met after the body of a `for`, the targets inside of it, and what is met where it begins
+-- the first control point after the body of a `for`, the targets inside of it, and the first control point of the body
 abbrev pub turning : Place → Option Typed → Next
 turning at last = first_some last (met point.Head at)
 
@@ -37,13 +37,13 @@ in_for to at last following = in_loop to following (turning at last)
 abbrev pub in_body : Targets → Place → Option Typed → Statement → Next → Next
 in_body to at last body following = starts (in_for to at last following) body (turning at last)
 
--- the head of a `for` is reached, and then comes a point
+-- the block of the head of a `for` visits it, and continues at a point
 abbrev pub IsHead : Flow → Place → ℕ → Point → Type 0
 IsHead flow at head r = block_of flow head ≡ does at 0 (Reach point.Head head) r
 
 module _ (program : TypedProgram) (routine : Routine) where
-  -- a `for` without its first part, which has so many counted points: once its head is reached comes a point, and after the loop stands the other
-  -- one, which is a block
+  -- a `for` without its first clause, which has this many counted points: its head continues at a point, and the point after the
+  -- loop is a block
   pub record TurnsFor (at : Place) (test last : Option Typed) (body : Statement) (before : ℕ) (old new : Built) (head end : ℕ) (r q : Point) : Type 0 where
     pub grows : Grows (counted_points body) old new
     pub counts : head + suc (before + length new.heads) ≡ new.counted_points

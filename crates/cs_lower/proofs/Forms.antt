@@ -32,13 +32,13 @@ use Rattle.cs_lower.proofs.Built.{nothing_more, grows_on, adds_nothing}
 use Rattle.cs_lower.proofs.Evaluating.{same_after}
 use Rattle.cs_lower.proofs.Integers.{integers_same, integers_both, integers_past, integers_if, integers_after, local_integers, accessed_integer, acts_integers}
 
--- what holds of a value that was made, if one was made
+-- a property of a value that was made, if one was made
 pub if_made : {T E : Type 0} {P Q : T → Type 0} (result : Result T E) → ((made : T) → P made → Q made) → IfOk result P → IfOk result Q
 if_made (Ok made) onward h = onward made h
 if_made (Err e) onward h = h
 
 module _ {flow : Flow} where
-  -- an operation that may be there and is no control point
+  -- an optional operation that is no control point
   if_meets : (at : Place) (number : ℕ) (work : Option Work) (q : Point) {next : Next} → IsSilent at work → MeetsNext flow q next
       → MeetsNext flow (does_if at number work q) next
   if_meets at number None q silent m = m
@@ -50,7 +50,7 @@ module _ {flow : Flow} where
   if_adds at number (Some work) q silent rest = adds_past at number work q silent rest
 
 module _ {program : TypedProgram} {at : Place} {ty : Shape} {number : ℕ} {old new : Built} {p s q : Point} where
-  -- what is built of an expression's parts, before what is done with them; the form may be seen as another that it is
+  -- the code of an expression's parts, before what is done with them; the form can be replaced by an equal one
   from_parts : {form it : Form} → form ≡ it → s ≡ acted program (Of at ty form) number q → Grows 0 old new
       → ((flow : Flow) → s ≡ acted program (Of at ty it) number q → Has flow new → HasArguments (Of at ty it)
       → evaluates_form program flow at ty it number p q)
@@ -103,7 +103,7 @@ module _ {program : TypedProgram} {at : Place} {ty : Shape} {number : ℕ} {old 
       subst (λ some. AddsPoints flow some (s ∷ blocks old) (p ∷ blocks new)) (points_are following) (h.adds flow has both following m))
       (λ count ints. h.integers count (integers count ints))
 
-  -- a conversion to void doesn't use the value
+  -- a conversion to `void` doesn't use the value
   pub convert_away : {form : Form} {a : Typed} → form ≡ Convert a → ty ≡ void → s ≡ acted program (Of at ty form) number q
       → Evaluates program a number old new p s → Evaluates program (Of at ty form) number old new p q
   convert_away {a = a} is none acts h = from_parts is acts h.grows
@@ -131,7 +131,7 @@ module _ {program : TypedProgram} {at : Place} {ty : Shape} {number : ℕ} {old 
       (λ flow has args following m. parts.adds flow has args.1 following m)
       (λ count ints. absurd ints)
 
-  -- a form whose parts are put together before the form is known to be that of the expression
+  -- a form whose parts are lowered before the form is known to be that of the expression
   pub formed : {form it : Form} → form ≡ it
       → ((flow : Flow) → evaluates_form program flow at ty it number p (acted program (Of at ty it) number q)
       → evaluates_form program flow at ty it number p q)
@@ -142,7 +142,7 @@ module _ {program : TypedProgram} {at : Place} {ty : Shape} {number : ℕ} {old 
       (λ flow has args following m. parts.adds flow has args following m)
       (λ count ints. parts.integers count ints)
 
-  -- a pointer and an amount, in their order
+  -- a pointer and an amount, in their order of evaluation
   pub index : {form : Form} {a b : Typed} (order : Order) → form ≡ Index a b order → s ≡ acted program (Of at ty form) number q
       → UsesBoth program (earlier order a b) (later order a b) number old new p s → Evaluates program (Of at ty form) number old new p q
   index PointerFirst is acts h =
@@ -169,7 +169,7 @@ alone {program = program} {at = at} {ty = ty} {number = number} {built = built} 
     (λ flow has args following m. subst (λ some. AddsPoints flow some (s ∷ blocks built) (s ∷ blocks built)) (sym (points_are following)) adds_nothing)
     (λ count ints. integers_same)
 
--- a conversion uses the value, but for one to void
+-- a conversion uses the value, except to `void`
 pub convert : {program : TypedProgram} {at : Place} {number : ℕ} {old new : Built} {p s q : Point} {form : Form} {a : Typed} (to : CType)
     → (to ≡ Void → ⊥) → form ≡ Convert a → s ≡ acted program (Of at (shape_of to) form) number q
     → Uses program a number old new p s → Evaluates program (Of at (shape_of to) form) number old new p q
@@ -179,7 +179,7 @@ convert (Pointer' place target) used is acts h = part is (λ flow it. it) (λ ar
 convert (Array' place element count) used is acts h = part is (λ flow it. it) (λ args. args) (λ count ints. ints) (λ following. refl) acts h
 convert (Struct number) used is acts h = part is (λ flow it. it) (λ args. args) (λ count ints. ints) (λ following. refl) acts h
 
--- updates: the load stands between the two parts
+-- updates: the object is loaded between the two parts
 module _ {program : TypedProgram} {at : Place} {ty : Shape} {number : ℕ} {old new : Built} {p s q : Point} where
   pub update : {form : Form} {a b : Typed} {op : BinOp} {works_in : IntType} {gives : Gives} → form ≡ Update op a b works_in gives
       → s ≡ acted program (Of at ty form) number q

@@ -1,4 +1,4 @@
--- Integer code, one piece after another: for the integers of what is built.
+-- Integer code, piece by piece: for the integer code of integer functions.
 use Rattle.std.proofs.Common.{◌≡◌, ℕ, List, [], ◌∷◌, Option, Some, None, refl, sym, subst}
 use Rattle.std.specs.Prelude.{All, Contains}
 use Rattle.std.specs.Option.{IfSome}
@@ -17,7 +17,7 @@ use Rattle.cs_lower.specs.Expressions.{does_if}
 use Rattle.cs_lower.specs.Integers.{IsIntegerLocal, IsOfIntegers, FormIsOfIntegers, AddsIntegers}
 
 module _ {count : ℕ} where
-  -- the same blocks, and all of them but the first
+  -- the same blocks, and all of them except the first
   pub integers_same : {some : List Point} → AddsIntegers count some some
   integers_same = record { keeps = λ all. all }
 
@@ -28,7 +28,7 @@ module _ {count : ℕ} where
   pub integers_both : {old between new : List Point} → AddsIntegers count old between → AddsIntegers count between new → AddsIntegers count old new
   integers_both one other = record { keeps = λ all. other.keeps (one.keeps all) }
 
-  -- a point that is an end alone, with which other code begins
+  -- a point without operations, with which other code begins
   pub integers_end : {end : BlockEnd} {old new : List Point} → AddsIntegers count (record { operations = []; end = end } ∷ old) new
       → AddsIntegers count old new
   integers_end {end = end} {old = old} rest = record {
@@ -48,7 +48,7 @@ module _ {count : ℕ} where
         (All-cons (IsIntegerOperation count) operation q.operations is first) others);
   }
 
-  -- an operation that may be there
+  -- an optional operation
   pub integers_if : {old new : List Point} (at : Place) (number : ℕ) (work : Option Work) (q : Point) → IfSome work (IsIntegerWork count)
       → AddsIntegers count (does_if at number work q ∷ old) new → AddsIntegers count (q ∷ old) new
   integers_if at number None q is rest = rest
@@ -60,7 +60,7 @@ module _ {count : ℕ} where
     keeps = λ all. All-weaker (Contains old) (IsIntegerPoint count) (λ p in_old. All-contains (IsIntegerPoint count) old p all in_old) new among;
   }
 
-  -- code that is put together between a point and the block that the point becomes
+  -- code that is built between a point and the block that the point becomes
   pub integers_between : {old with_point with_code new : List Point} {p r : Point} → AddsIntegers count old (r ∷ with_point)
       → AddsIntegers count with_point (p ∷ with_code) → AddsIntegers count (r ∷ with_code) new → AddsIntegers count old (p ∷ new)
   integers_between {with_point = with_point} {with_code = with_code} {new = new} {p = p} {r = r} before code after = record {
@@ -72,27 +72,27 @@ module _ {count : ℕ} where
         All-cons is p new (All-head is p with_code coded) made;
   }
 
-  -- the first point may be seen as another that it is
+  -- the first point can be replaced by an equal one
   pub integers_after : {old new : List Point} {s t : Point} → s ≡ t → AddsIntegers count (s ∷ old) new → AddsIntegers count (t ∷ old) new
   integers_after {old = old} {new = new} is adds = subst (λ r. AddsIntegers count (r ∷ old) new) is adds
 
   pub integers_before : {old new : List Point} {p t : Point} → p ≡ t → AddsIntegers count old (t ∷ new) → AddsIntegers count old (p ∷ new)
   integers_before {old = old} {new = new} is adds = subst (λ r. AddsIntegers count old (r ∷ new)) (sym is) adds
 
-  -- a variable is an object of integers, and is accessed as one
+  -- a local is an object of an integer type, and is accessed as one
   pub local_integers : {object : Typed} → IsIntegerLocal count object → IsOfIntegers count object
   local_integers local = subst (IsOfIntegers count) (sym local.is) local.below
 
   pub accessed_integer : {object : Typed} → IsIntegerLocal count object → IsOfInteger (access_of object)
   accessed_integer local = subst (λ e. IsOfInteger (access_of e)) (sym local.is) (record { direct = refl; ty = local.ty; of = refl })
 
-  -- its value is no result of a call, which would be looked at
+  -- an integer expression isn't a call, whose result would be checked
   pub used_integers : {old new : List Point} (e : Typed) (number : ℕ) (q : Point) → IsOfIntegers count e
       → AddsIntegers count (used_then e number q ∷ old) new → AddsIntegers count (q ∷ old) new
   used_integers (Of at ty (Call function arguments)) number q ints rest = absurd ints
   used_integers (Of at ty other) number q ints rest = rest
 
--- what an expression does with its parts is work on integers
+-- what an integer expression does with its parts works with integers only
 pub acts_integers : (count : ℕ) (program : TypedProgram) (ty : Shape) (form : Form) → FormIsOfIntegers count form
     → IfSome (work_of program ty form) (IsIntegerWork count)
 acts_integers count program ty (Number n) ints = tt

@@ -16,7 +16,7 @@ module _ (program : TypedProgram) (flow : Flow) where
   pub kept_at : (block : ℕ) (q : Point) → block_of flow block ≡ q → IsKept program flow q
   kept_at block q is = (block, subst (λ r. Joins program flow q r) (sym is) there)
 
-  -- a jump to one is kept too
+  -- a jump to a block is kept too
   pub kept_jump : (block : ℕ) (q : Point) → q ≡ jump_to block → IsKept program flow q
   kept_jump block q is = (block, subst (λ r. Joins program flow r (block_of flow block)) (sym is) (jumps there))
 

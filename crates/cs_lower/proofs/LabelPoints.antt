@@ -24,7 +24,7 @@ if_counted_point : (here : Bool) (l : Landing) (other : Option Landing)
 if_counted_point true l other = refl
 if_counted_point false l other = refl
 
--- of either, the counted point is the same
+-- the counted point of either of two is the same
 either : (a b c d : Option Landing) → counted_point_of a ≡ counted_point_of c → counted_point_of b ≡ counted_point_of d
     → counted_point_of (first_of_two a b) ≡ counted_point_of (first_of_two c d)
 either a b c d one other =
@@ -61,7 +61,7 @@ mutual
   same_counted_points wanted (Then first others) counted_point one other =
       either _ _ _ _ (same_counted_point wanted first counted_point _ _) (same_counted_points wanted others (counted_point + counted_points first) one other)
 
--- the labels of each kind of statement that has some
+-- the labels of each kind of statement that may have some
 pub label_in-Switch : (wanted : ℕ) (at : _) (value : _) (cases : _) (statements : Statements) (counted_point : ℕ)
     → label_in wanted (Switch at value cases statements) counted_point ≡ label_among wanted statements counted_point
 label_in-Switch wanted at value cases statements counted_point = same_counted_points wanted statements counted_point _ _
@@ -101,7 +101,7 @@ label_among-Then wanted first others counted_point =
     first_counted_point (landing wanted first counted_point _) (landing_in wanted others (counted_point + counted_points first) [])
     ∙ ap (λ m. option_or m (label_among wanted others (counted_point + counted_points first))) (same_counted_point wanted first counted_point _ _)
 
--- the rest of a row from an index on
+-- the rest of a list from an index on
 next_dropped : {X : Type 0} (row : List X) (i : ℕ) (x : X) → suc i ≤ length row → x ≡ get_or row i x → drop i row ≡ x ∷ drop (i + 1) row
 next_dropped row i x within is =
     let next : suc i ≡ i + 1 = omega arith in
@@ -118,7 +118,7 @@ or_or : (a b c : Option ℕ) → option_or (option_or a b) c ≡ option_or a (op
 or_or None b c = refl
 or_or (Some n) b c = refl
 
--- the labels of one more statement of a row
+-- the labels of one more statement of a list
 pub one_more_labelled : (row : List Stmt) (i : ℕ) (s : Stmt) → suc i ≤ length row → s ≡ get_or row i s
     → (wanted counted_point next : ℕ) (old new : Option ℕ) → next ≡ counted_point + counted_points (statement s)
     → new ≡ option_or old (label_in wanted (statement s) counted_point)

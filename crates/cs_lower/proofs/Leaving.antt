@@ -23,7 +23,7 @@ use Rattle.cs_lower.proofs.Integers.{integers_same, integers_both, integers_end,
 jump_leads : {program : TypedProgram} (flow : Flow) (block : ℕ) (p : Point) → p ≡ jump_to block → Joins program flow p (block_of flow block)
 jump_leads {program = program} flow block p is = subst (λ r. Joins program flow r (block_of flow block)) (sym is) (jumps there)
 
--- what comes after is kept, and brings in no control points
+-- the code after it is kept, and adds no control points
 led_off : (flow : Flow) {block : ℕ} {old new : Built} {p q : Point} → LeadsOff old new block p q
     → AddsPoints flow [] (q ∷ blocks old) (p ∷ blocks new)
 led_off flow {block = block} h = same_before h.is (then_nothing (h.keeps.adds flow) (adds_jump block))

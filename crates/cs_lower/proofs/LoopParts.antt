@@ -1,4 +1,4 @@
--- The code of the test of a `for` and of its last part, either of which is optional, and of a `return`: for the contracts of
+-- The code of the test of a `for` and of its last clause, either of which is optional, and of a `return`: for the contracts of
 -- `lower_for_test`, `lower_last` and `lower_return`.
 use Rattle.std.proofs.Common.{◌≡◌, ℕ, List, ◌∷◌, Option, Some, None, refl, sym, subst}
 use Rattle.cs_ast.specs.declared.place.Place.{Place}
@@ -24,14 +24,14 @@ use Rattle.cs_lower.proofs.Evaluating.{same_after, same_before}
 use Rattle.cs_lower.proofs.Integers.{integers_same, integers_both, integers_end, integers_past, integers_after, integers_before}
 
 module _ (program : TypedProgram) (flow : Flow) where
-  -- a block leads to what it is, and what it is leads to the block
+  -- a block and its point lead to each other
   block_joins : (block : ℕ) (q : Point) → block_of flow block ≡ q → Joins program flow (block_of flow block) q
   block_joins block q is = subst (λ r. Joins program flow r q) (sym is) there
 
   joins_block : (block : ℕ) (q : Point) → block_of flow block ≡ q → Joins program flow q (block_of flow block)
   joins_block block q is = subst (λ r. Joins program flow r (block_of flow block)) is there
 
--- a `return` brings in its own control point and those of its value
+-- a `return` adds its own control point and those of its value
 return_alone : {flow : Flow} {at : Place} {some new : List Point} (value : Option Typed) (to : Targets) (following : Next)
     → AddsPoints flow (points_some value (met point.Return at)) (does at 1 (graph.Meet point.Return) leaving ∷ some) new
     → AddsPoints flow (flows to (Return at value) following) some new
@@ -59,7 +59,7 @@ module _ {program : TypedProgram} where
     integers = λ count ints. integers_both (seals.integers count) (integers_end (tests.integers count ints));
   }
 
-  -- the last part of a `for`
+  -- the last clause of a `for`
   pub no_last : {built : Built} {head : ℕ} → EndsFor program None built built head head
   no_last {built = built} {head = head} = record {
     grows = nothing_more built;

@@ -34,7 +34,7 @@ use Rattle.cs_lower.proofs.Executing.{counted_point_before, counted_point_stays}
 use Rattle.cs_lower.proofs.Integers.{integers_same, integers_both, integers_end}
 
 module _ (program : TypedProgram) (routine : Routine) where
-  -- from the first statement on are all
+  -- execution from the first statement on is execution of all statements
   all_from : (flow : Flow) (statements : Statements) (counted_point : ℕ) (out again p q : Point)
       → from_at program flow routine (labels_in routine flow) 0 statements counted_point out again p q
       → all_at program flow routine (labels_in routine flow) statements counted_point out again p q
@@ -57,7 +57,7 @@ module _ (program : TypedProgram) (routine : Routine) where
       (cases_lead program flow routine (labels_in routine flow) (λ n. block_of flow (block_at blocks end n)) others) (cases_led flow others blocks end)
 
 module _ {program : TypedProgram} {routine : Routine} where
-  -- statements that begin blocks
+  -- statements that each begin a block
   pub enters_none : (out again : ℕ) (built : Built) (end : ℕ) → EntersAll program routine Empty out again built built [] end
   enters_none out again built end = record {
     grows = nothing_more built;
@@ -114,7 +114,7 @@ module _ {program : TypedProgram} {routine : Routine} where
       enters flow counted_point here following zero = (block_of flow next, (jump_to next, here, jumps there), others_at flow counted_point following)
       enters flow counted_point here following (suc item) = following item
 
-  -- one more of a row that is lowered from its end
+  -- one more statement of a list, whose last one is lowered first
   pub enters_further : {out again : ℕ} {old mid new : Built} {block next end : ℕ} {blocks more : List ℕ} (row : List Stmt) (left : ℕ) (s : Stmt)
       → 1 ≤ left → left ≤ length row → s ≡ get_or row (left - 1) s → next ≡ block_at blocks end 0 → more ≡ block ∷ blocks
       → EntersAll program routine (statement_list (drop left row)) out again old mid blocks end
@@ -171,7 +171,7 @@ module _ {program : TypedProgram} {routine : Routine} where
             integers_both (ends.integers count) (integers_both (enters.integers count ints.1) (integers_end (goes.integers count ints.0)));
       }
 
--- the cases with a value, and the one of `default`, as they are gone through
+-- the cases with a value, and that of `default`, in the order of the loop
 pub cases_to-on : (blocks : List ℕ) (end : ℕ) (cases : List Case) (i : ℕ) (one : Case) → suc i ≤ length cases → one ≡ get_or cases i one
     → cases_to blocks end (drop i cases) ≡ with_case one.value (block_at blocks end one.item) [] ++ cases_to blocks end (drop (i + 1) cases)
 cases_to-on blocks end cases i one within is =
@@ -185,7 +185,7 @@ cases_to-on blocks end cases i one within is =
     split None = refl
     split (Some value) = refl
 
--- nothing is left after all of a list
+-- no element remains from the end of a list on
 pub dropped : {X : Type 0} (xs : List X) (i : ℕ) → length xs ≤ i → drop i xs ≡ []
 dropped [] zero h = refl
 dropped [] (suc i) h = refl
@@ -196,7 +196,7 @@ nothing_after : {X : Type 0} (xs : List X) → xs ++ [] ≡ xs
 nothing_after [] = refl
 nothing_after (x ∷ xs) = ap (λ l. x ∷ l) (nothing_after xs)
 
--- where no case is the `default`, all statements are after it
+-- if no case is the `default`, it leads to the end of the statements
 pub no_default : (blocks : List ℕ) (end : ℕ) (cases : List Case) (i : ℕ) → length cases ≤ i
     → default_item (drop i cases) (length blocks) ≡ default_item cases (length blocks) → end ≡ block_at blocks end (default_item cases (length blocks))
 no_default blocks end cases i past is =

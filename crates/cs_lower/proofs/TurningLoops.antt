@@ -25,7 +25,7 @@ use Rattle.cs_lower.proofs.Evaluating.{jump_joins, same_after, same_before}
 use Rattle.cs_lower.proofs.Executing.{counted_point_stays}
 use Rattle.cs_lower.proofs.Integers.{integers_same, integers_both, integers_end, integers_after, integers_before}
 
--- the head of a loop has the number that was given before its body
+-- the head of a loop has the number that it got before its body was built
 pub is_head : {old y new : Built} {count head inner counted_point : ℕ} → Grows count old y → Grows 1 y new
     → head + suc (inner + length old.heads) ≡ old.counted_points → inner ≡ count → counted_point + length new.heads ≡ new.counted_points
     → head ≡ counted_point
@@ -36,7 +36,7 @@ is_head inside seals before counts e =
     let d = seals.same in
     omega arith
 
--- and is the last counted point that had no block
+-- and is the last counted point without a block
 pub is_last : {old y : Built} {count inner : ℕ} (head : ℕ) → Grows count old y → head + suc (inner + length old.heads) ≡ old.counted_points
     → inner ≡ count → head + suc (length y.heads) ≡ y.counted_points
 is_last head inside before counts =
@@ -50,7 +50,7 @@ pub after_head : (built : Built) (head : ℕ) → head + suc (length built.heads
 after_head built head e = omega arith
 
 module _ (program : TypedProgram) (flow : Flow) where
-  -- a block leads to what it is
+  -- a block leads to the point that it is
   pub block_joins : (block : ℕ) (q : Point) → block_of flow block ≡ q → Joins program flow (block_of flow block) q
   block_joins block q is = subst (λ r. Joins program flow r q) (sym is) there
 

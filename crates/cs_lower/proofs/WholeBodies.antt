@@ -99,7 +99,7 @@ module _ {program : TypedProgram} {routine : Routine} where
             (integers_past routine.at 0 (graph.Meet point.Enter) inside tt (integers_after enters (begins.integers count))));
       }
 
-  -- all of a body's graph
+  -- the whole graph of a body
   pub whole_body : {body : Statement} {entry count : ℕ} {old new : Built} {flow : Flow} → BeginsBody program routine body old new entry
       → old ≡ record { counted_points = count; heads = []; others = [] } → count ≡ counted_points body
       → (length new.heads ≡ new.counted_points → Has flow new) → All (Contains (blocks new)) flow.blocks → flow.entry ≡ entry
@@ -116,14 +116,14 @@ module _ {program : TypedProgram} {routine : Routine} where
         fits = fit_among flow.blocks (blocks new) no_other (begins.fits flow (has all) args all first (omega arith) has_body nothing_yet);
       }
 
-  -- and all of it works with integers alone where the body does
+  -- and it is integer code, if the body works with integers only
   pub whole_integers : {body : Statement} {entry count : ℕ} {old new : Built} (flow : Flow) → BeginsBody program routine body old new entry
       → old ≡ record { counted_points = count; heads = []; others = [] } → All (Contains (blocks new)) flow.blocks → WorksAs body flow
   whole_integers flow begins starts no_other = λ count ints.
       let nothing_yet = subst (λ (b : Built). All (IsIntegerPoint count) (blocks b)) (sym starts) (All-nil (IsIntegerPoint count)) in
       (integers_among no_other).keeps ((begins.integers count ints).keeps nothing_yet)
 
-  -- a function with a body
+  -- a function with a body has a graph
   pub has_graph : {body : Statement} {flow : Flow} → routine.body ≡ Some body → (StatementHasArguments body → IsGraphOf program routine body flow)
       → WorksAs body flow → HasGraph program routine (Some flow)
   has_graph {body = body} {flow = flow} is lowers works = record {
@@ -139,7 +139,7 @@ module _ {program : TypedProgram} {routine : Routine} where
         subst (λ b. WorksAs b graph) same (subst (λ f. WorksAs body f) alike works);
   }
 
-  -- a function without one
+  -- a function without a body has none
   pub has_none : routine.body ≡ None → HasGraph program routine None
   has_none is = record { there = ap is_there (sym is); lowers = λ body flow none some args. cc; integers = λ body flow none some. cc }
 
@@ -190,7 +190,7 @@ one_more_graph {program = program} {count = count} {graphs = graphs} {more = mor
         (sym (ap (λ l. slice_get l n) is ∙ (ap (slice_get (graphs ++ graph ∷ [])) here ∙ at_last graphs graph)))
         (subst (λ (k : ℕ). HasGraph program (routine_of program k) graph) last new)
 
--- what is so of the graph of each body is so of a graph that is there, if just what has a body has a graph
+-- a property of the graph of each body holds of a graph that exists, if exactly the functions with a body have one
 if_there : {P : Flow → Type 0} (body : Option Statement) (graph : Option Flow) → is_there graph ≡ is_there body
     → ((b : Statement) (flow : Flow) → body ≡ Some b → graph ≡ Some flow → P flow) → IfSome graph P
 if_there body None same each = tt
@@ -224,7 +224,7 @@ module _ {program : TypedProgram} {count : ℕ} {graphs : List (Option Flow)} (a
   graph_of : (n : ℕ) → HasGraph program (routine_of program n) (unwrap_or (slice_get graphs n) None)
   graph_of n = graph_at n (nat_lt n count) refl
 
-  -- of a function of integers it works with integers alone
+  -- the graph of an integer function is integer code
   pub all_integers : KeepsIntegers (record { flows = graphs }) program
   all_integers n ints flow is =
       let Works : Flow → Type 0 = λ (f : Flow). All (IsIntegerPoint (count_of_locals program n)) f.blocks in
@@ -241,7 +241,7 @@ module _ {program : TypedProgram} {count : ℕ} {graphs : List (Option Flow)} (a
       bodies = λ n body flow has_body has_flow. ((graph_of n).lowers body flow has_body has_flow (args n body has_body)).lowers;
     }
 
-    -- and has no control points but those of its function
+    -- and has only the control points of its function
     all_fit : CodeFits (record { flows = graphs }) program
     all_fit n =
         graph_fits_if (routine_of program n) (unwrap_or (slice_get graphs n) None)

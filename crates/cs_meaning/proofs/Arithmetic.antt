@@ -22,7 +22,7 @@ abbrev divides : TypedProgram
 divides =
     functions (defined 5 int 1 (named 120 int ∷ []) 26 (Return (at 14) (Some (Of (at 23) int (Binary Div (literal 21 10) (value 24 int 0)))) ∷ []) ∷ [])
 
--- a division by 0 is a fault, and shows nothing
+-- a division by 0 is a fault, and has no event
 divides_by_zero : RunEnds divides 0 (plain []) USUAL [] (Fault Divide (at 23))
 unfolding runs.perform
 divides_by_zero = ends_so divides 0 (plain []) USUAL 20 refl
@@ -31,7 +31,7 @@ divides_by_three : RunEnds divides 0 (plain (given 120 (pos 3) ∷ [])) USUAL (e
 unfolding runs.perform
 divides_by_three = ends_so divides 0 (plain (given 120 (pos 3) ∷ [])) USUAL 20 refl
 
--- int f(int x){return x/-1;}, where the least number leaves its type once
+-- int f(int x){return x/-1;}, where the result for the least number wraps once
 abbrev turns_round : TypedProgram
 turns_round =
     functions (defined 5 int 1 (named 120 int ∷ []) 26
@@ -59,7 +59,7 @@ shifts_into_sign : RunEnds shifts 0 (plain (given 120 (pos 31) ∷ [])) USUAL (e
 unfolding runs.perform
 shifts_into_sign = ends_so shifts 0 (plain (given 120 (pos 31) ∷ [])) USUAL 20 refl
 
--- unsigned char f(unsigned char x){return x--;}, where the value before is given and -1 doesn't fit the type
+-- unsigned char f(unsigned char x){return x--;}, which returns the value before, and -1 doesn't fit the type
 abbrev steps_down : TypedProgram
 steps_down =
     functions (defined 15 (integer UChar) 1 (named 120 (integer UChar) ∷ []) 46
@@ -69,7 +69,7 @@ steps_below_zero : RunEnds steps_down 0 (plain []) USUAL (event 42 (Wrap Same) �
 unfolding runs.perform
 steps_below_zero = ends_so steps_down 0 (plain []) USUAL 20 refl
 
--- int f(int x){return -x==x;}, which the least number meets by one turn of its type
+-- int f(int x){return -x==x;}, which holds for the least number after one wrap
 abbrev equals_its_negative : TypedProgram
 equals_its_negative =
     functions (defined 5 int 1 (named 120 int ∷ []) 27
@@ -80,7 +80,7 @@ least_equals_its_negative : RunEnds equals_its_negative 0 (plain (given 120 (neg
 unfolding runs.perform
 least_equals_its_negative = ends_so equals_its_negative 0 (plain (given 120 (negsuc 2147483647) ∷ [])) USUAL 20 refl
 
--- int f(int x){return x*x;}, whose exact result lies far off
+-- int f(int x){return x*x;}, whose exact result can be far out of range
 abbrev squares : TypedProgram
 squares =
     functions (defined 5 int 1 (named 120 int ∷ []) 24 (Return (at 14) (Some (Of (at 22) int (Binary Mul (value 21 int 0) (value 23 int 0)))) ∷ []) ∷ [])

@@ -26,13 +26,13 @@ frees_twice =
     functions (defined 6 void 1 (named 112 to_int ∷ []) 31
     (Run (at 15) (Of (at 19) void (Free (value 20 to_int 0))) ∷ (Run (at 23) (Of (at 27) void (Free (value 28 to_int 0))) ∷ [])) ∷ [])
 
--- a start block may be freed once
+-- a start block may be freed only once
 frees_a_block_twice : RunEnds frees_twice 0 (plain (given 112 (pos 1) ∷ [])) USUAL (event 19 (Look true) ∷ event 27 (Look true) ∷ [])
     (Fault kind.DoubleFree (at 27))
 unfolding runs.perform
 frees_a_block_twice = ends_so frees_twice 0 (plain (given 112 (pos 1) ∷ [])) USUAL 40 refl
 
--- null may be freed as often as one likes
+-- null may be freed any number of times
 frees_null_twice : RunEnds frees_twice 0 (plain []) USUAL (event 19 (Look false) ∷ event 27 (Look false) ∷ []) (Done returned.Nothing)
 unfolding runs.perform
 frees_null_twice = ends_so frees_twice 0 (plain []) USUAL 40 refl
@@ -59,7 +59,7 @@ uses_freed = functions (
     Run (at 83) (Of (at 87) void (Call 0 (row (value 88 to_int 0 ∷ [])))) ∷ (
     Return (at 91) (Some (loaded (Of (at 98) int (Through (value 99 to_int 1))))) ∷ [])))))) ∷ []))
 
--- a block that another function has freed
+-- a block that another function has freed is read
 reads_a_freed_block : RunEnds uses_freed 1 (plain (input (root.Malloc 1) (pos 1) ∷ [])) USUAL
     (event 52 (Wrap Same) ∷ event 52 (Alloc true) ∷ event 66 (Look true) ∷ event 66 (Truth false) ∷ event 63 (Branch false) ∷ event 78 (Look true)
     ∷ event 78 (Truth true) ∷ event 78 (Truth true) ∷ event 78 (Offset 0) ∷ event 87 (Callee 0) ∷ event 22 (Look true) ∷ event 98 (Look true)
@@ -67,7 +67,7 @@ reads_a_freed_block : RunEnds uses_freed 1 (plain (input (root.Malloc 1) (pos 1)
 unfolding runs.perform
 reads_a_freed_block = ends_so uses_freed 1 (plain (input (root.Malloc 1) (pos 1) ∷ [])) USUAL 120 refl
 
--- where no block is given, nothing is done with it
+-- if the allocation fails, nothing is done with the block
 allocation_fails : RunEnds uses_freed 1 (plain []) USUAL
     (event 52 (Wrap Same) ∷ event 52 (Alloc false) ∷ event 66 (Look false) ∷ event 66 (Truth true) ∷ event 63 (Branch true) ∷ [])
     (Done (returned.Number (pos 0)))
@@ -95,7 +95,7 @@ allocates_zeros = functions (defined 5 int 1 (named 110 (integer ULong) ∷ (nam
     If (at 42) (Of (at 45) int (Not (value 46 to_int 1))) (Return (at 48) (Some (literal 55 0))) ∷ (
     Return (at 57) (Some (loaded (Of (at 65) int (Index (value 64 to_int 1) (literal 66 0) PointerFirst)))) ∷ []))) ∷ [])
 
--- no element fits a block of 0 bytes
+-- a block of 0 bytes has no room for an element
 reads_past_an_empty_block : RunEnds allocates_zeros 0 (plain (input (root.Malloc 1) (pos 1) ∷ [])) USUAL
     (event 36 (Wrap Same) ∷ event 36 (Truth true) ∷ event 36 (Wrap Same) ∷ event 36 (Alloc true) ∷ event 45 (Look true) ∷ event 45 (Truth false)
     ∷ event 42 (Branch false) ∷ event 65 (Look true) ∷ event 65 (Truth true) ∷ event 65 (Truth true) ∷ event 65 (Wrap Same) ∷ event 65 (Look true)
@@ -110,7 +110,7 @@ reads_a_zero : RunEnds allocates_zeros 0 (plain (given 110 (pos 1) ∷ (input (r
 unfolding runs.perform
 reads_a_zero = ends_so allocates_zeros 0 (plain (given 110 (pos 1) ∷ (input (root.Malloc 1) (pos 1) ∷ []))) USUAL 120 refl
 
--- 2^62 elements of 4 bytes are too many: null is given whatever the input says
+-- 2^62 elements of 4 bytes are too many: the call returns null, whatever the input is
 asks_for_too_much : RunEnds allocates_zeros 0 (plain (given 110 (pos 4611686018427387904) ∷ (input (root.Malloc 1) (pos 1) ∷ []))) USUAL
     (event 36 (Wrap Same) ∷ event 36 (Truth false) ∷ event 45 (Look false) ∷ event 45 (Truth true) ∷ event 42 (Branch true) ∷ [])
     (Done (returned.Number (pos 0)))
@@ -137,7 +137,7 @@ divides_by_an_input : RunEnds (calls_outside (true ∷ [])) 1 (plain (((record {
 unfolding runs.perform
 divides_by_an_input = ends_so (calls_outside (true ∷ [])) 1 (plain (((record { root = root.Wrote 1 0; cells = 0 ∷ [] }, pos 2)) ∷ [])) USUAL 60 refl
 
--- through a pointer to const nothing is written
+-- nothing is written through a pointer to const
 writes_nothing_through_const : RunEnds (calls_outside (false ∷ [])) 1 (plain []) USUAL (event 37 (Callee 0) ∷ []) (Fault kind.Unset (at 51))
 unfolding runs.perform
 writes_nothing_through_const = ends_so (calls_outside (false ∷ [])) 1 (plain []) USUAL 60 refl
@@ -158,7 +158,7 @@ copies_unset offset = record (functions (defined 28 int 0 (named 120 (struct 0) 
     Run (at 64) (Of (at 65) (struct 0) (Assign (local 64 (struct 0) 1) (value 66 (struct 0) 0))) ∷ (
     Return (at 68) (Some (loaded (Of (at 76) int (Member (local 75 (struct 0) 1) offset)))) ∷ []))))) ∷ [])) { table = pair ∷ [] }
 
--- unset members are copied without a fault, and read with one
+-- unset members can be copied without a fault, but not read
 reads_a_copied_unset_member : RunEnds (copies_unset 4) 0 (plain []) USUAL ([]) (Fault kind.Unset (at 76))
 unfolding runs.perform
 reads_a_copied_unset_member = ends_so (copies_unset 4) 0 (plain []) USUAL 80 refl
@@ -179,7 +179,7 @@ follows_null : RunEnds follows_twice 0 (plain (given 112 (pos 1) ∷ [])) USUAL
 unfolding runs.perform
 follows_null = ends_so follows_twice 0 (plain (given 112 (pos 1) ∷ [])) USUAL 40 refl
 
--- what it points to is a block of its own, with inputs below its path
+-- it points to a block of its own, whose inputs have longer paths
 follows_a_start_block : RunEnds follows_twice 0
     (plain (given 112 (pos 1) ∷ ((record { root = root.Param (112 ∷ []); cells = 0 ∷ [] }, pos 1)
     ∷ ((record { root = root.Param (112 ∷ []); cells = 0 ∷ (0 ∷ []) }, pos 7) ∷ [])))) USUAL
@@ -211,7 +211,7 @@ reads_an_initializer : RunEnds reads_table 0 (plain (given 105 (pos 1) ∷ [])) 
 unfolding runs.perform
 reads_an_initializer = ends_so reads_table 0 (plain (given 105 (pos 1) ∷ [])) USUAL 40 refl
 
--- what an initializer leaves out is zero
+-- elements without an initializer are zero
 reads_what_was_unsupported : RunEnds reads_table 0 (plain (given 105 (pos 2) ∷ [])) USUAL
     (event 44 (Look true) ∷ event 44 (Truth true) ∷ event 44 (Truth true) ∷ event 44 (Wrap Same) ∷ event 44 (Look true) ∷ event 44 (Truth true)
     ∷ event 44 (Truth true) ∷ event 44 (Offset 8) ∷ []) (Done (returned.Number (pos 0)))

@@ -1,4 +1,4 @@
--- Definitions for small programs made by hand, all in one line of one file, and for how their runs end.
+-- Shorthands for small programs by hand, all in one line of one file, and for how their runs end.
 use Rattle.std.proofs.Common.{◌≡◌, ℕ, ℤ, pos, Bool, List, [], ◌∷◌, Option, Some, None, unwrap_or, refl, ap, subst}
 use Rattle.cs_types.specs.declared.data_model.DataModel.TheVariants.{Lp64}
 use Rattle.cs_types.specs.declared.int_type.IntType.TheVariants.{Int}
@@ -23,7 +23,7 @@ use Rattle.cs_meaning.specs.Machine.{State}
 use Rattle.cs_meaning.specs.Steps.{step}
 use Rattle.cs_meaning.specs.ProgramRuns.{ProgramRun, setting_of, start_of, RunGives, RunEnds}
 
--- the place of a column
+-- the position of a column
 abbrev pub at : ℕ → Place
 at column = record { file = 0; line = 1; column = column }
 
@@ -48,7 +48,7 @@ loaded object = Of (place_of object) (type_of object) (Load object)
 abbrev pub value : ℕ → Shape → ℕ → Typed
 value column ty declaration = loaded (local column ty declaration)
 
--- expressions and statements in a row
+-- lists of expressions and statements
 abbrev pub row : List Typed → TypedList
 row [] = NoMore
 row (e ∷ es) = Further e (row es)
@@ -61,7 +61,7 @@ sequence (s ∷ ss) = Then s (sequence ss)
 abbrev pub named : ℕ → Shape → Variable
 named letter ty = record { name = letter ∷ []; ty = ty; block = None }
 
--- a function whose name stands at a column, with so many parameters, and with a body that ends at a column
+-- a function whose name is at a column, with so many parameters, and with a body that ends at a column
 abbrev pub defined : ℕ → Shape → ℕ → List Variable → ℕ → List Statement → Routine
 defined column ty parameters variables closes body = record {
   name = 102 ∷ [];
@@ -74,7 +74,7 @@ defined column ty parameters variables closes body = record {
   written = [];
 }
 
--- a function without a body, which may write through the parameters that are marked so
+-- a function without a body, which may write through the marked parameters
 abbrev pub declared : ℕ → Shape → List Variable → List Bool → Routine
 declared column ty variables written = record {
   name = 101 ∷ [];
@@ -87,7 +87,7 @@ declared column ty variables written = record {
   written = written;
 }
 
--- a program of functions alone
+-- a program of functions only
 abbrev pub functions : List Routine → TypedProgram
 functions routines = record { model = Lp64; files = []; table = []; globals = []; literals = []; routines = routines; constants = [] }
 
@@ -107,23 +107,23 @@ event column label = record { place = at column; label = label }
 abbrev pub guess : ℕ → ℤ → Guess
 guess event number = record { event = event; number = number }
 
--- the budgets unless said
+-- the budgets, if nothing else is stated
 abbrev pub USUAL : RunBudgets
 USUAL = record { visits = 4; depth = 5; events = 20000 }
 
 abbrev pub plain : List (Path × ℤ) → ProgramRun
 plain inputs = record { inputs = inputs; guesses = [] }
 
--- where a run of a program's entry has come to after so many steps
+-- the state of a run of a program's entry after so many steps
 abbrev pub come_to : TypedProgram → ℕ → ProgramRun → RunBudgets → ℕ → Performed State
 come_to program entry run budgets steps = followed (step program budgets) (setting_of program run budgets) steps (start_of program entry run) empty
 
--- how it has ended, and with which events
+-- its outcome and events, if it has ended
 abbrev pub reported : Performed State → Option (Outcome × List Event)
 reported (Continues m log) = None
 reported (Finishes outcome log) = Some (outcome, log.events)
 
--- a run that has ended after so many steps ends so
+-- a run that has ended after so many steps has this outcome and these events
 pub ends_so : (program : TypedProgram) (entry : ℕ) (run : ProgramRun) (budgets : RunBudgets) (steps : ℕ) {outcome : Outcome} {events : List Event}
     → reported (come_to program entry run budgets steps) ≡ Some (outcome, events) → RunEnds program entry run budgets events outcome
 ends_so program entry run budgets steps {outcome = outcome} {events = events} h = finished (come_to program entry run budgets steps) refl h

@@ -50,7 +50,7 @@ switches = functions (defined 5 int 1 (named 120 int ∷ (named 115 int ∷ []))
     Run (at 70) (Of (at 71) int (Assign (local 70 int 1) (literal 72 9))) ∷ []))))) ∷ (
     Return (at 75) (Some (value 82 int 1)) ∷ []))) ∷ [])
 
--- a case falls through into the next, up to a `break`
+-- a case falls through to the next one, up to a `break`
 falls_through : RunEnds switches 0 (plain (given 120 (pos 3) ∷ [])) USUAL (event 22 (CaseOf 0) ∷ event 53 (Wrap Same) ∷ [])
     (Done (returned.Number (pos 3)))
 unfolding runs.perform

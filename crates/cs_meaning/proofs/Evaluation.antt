@@ -1,4 +1,4 @@
--- Samples of evaluation: what is evaluated, in which order, and what is looked up.
+-- Samples of evaluation: what is evaluated, in which order, and what is inspected.
 use Rattle.std.proofs.Common.{ℕ, ℤ, pos, [], ◌∷◌, Some, None, true, false, refl}
 use Rattle.cs_types.specs.Shape.{void}
 use Rattle.cs_inputs.specs.declared.path.Path.{Path}
@@ -29,7 +29,7 @@ both =
     functions (defined 5 int 2 (named 112 to_int ∷ (named 113 to_int ∷ [])) 32
     (Return (at 20) (Some (Of (at 28) int (And (value 27 to_int 0) (value 30 to_int 1)))) ∷ []) ∷ [])
 
--- the right part isn't evaluated, and shows nothing
+-- the right operand isn't evaluated, and has no events
 a_left_part_is_false : RunEnds both 0 (plain []) USUAL (event 28 (Look false) ∷ event 28 (Branch false) ∷ []) (Done (returned.Number (pos 0)))
 unfolding runs.perform
 a_left_part_is_false = ends_so both 0 (plain []) USUAL 30 refl
@@ -39,7 +39,7 @@ a_right_part_is_a_truth : RunEnds both 0 (plain (given 112 (pos 1) ∷ (given 11
 unfolding runs.perform
 a_right_part_is_a_truth = ends_so both 0 (plain (given 112 (pos 1) ∷ (given 113 (pos 1) ∷ []))) USUAL 30 refl
 
--- int g(void){} and a function that calls it in some place
+-- int g(void){} and a function with a call of it
 abbrev calls_unset : Statement → TypedProgram
 calls_unset s = functions (defined 5 int 0 [] 13 [] ∷ (defined 19 void 0 [] 40 (s ∷ []) ∷ []))
 
@@ -61,13 +61,13 @@ a_left_part_of_a_comma : RunEnds (calls_unset (Run (at 30) (Of (at 34) int (Comm
 unfolding runs.perform
 a_left_part_of_a_comma = ends_so (calls_unset (Run (at 30) (Of (at 34) int (Comma (called 31) (literal 35 1))))) 1 (plain []) USUAL 30 refl
 
--- its value is that of the comma
+-- the value of the right operand is that of the comma
 a_right_part_of_a_comma : RunEnds (calls_unset (Run (at 30) (Of (at 34) int (Comma (literal 30 1) (called 31))))) 1 (plain []) USUAL
     (event 31 (Callee 0) ∷ []) (Fault kind.Unset (at 31))
 unfolding runs.perform
 a_right_part_of_a_comma = ends_so (calls_unset (Run (at 30) (Of (at 34) int (Comma (literal 30 1) (called 31))))) 1 (plain []) USUAL 30 refl
 
--- int f(int*p){return *p++ + *p;}, of which the pointer moves past the first part
+-- int f(int*p){return *p++ + *p;}, where the left operand moves the pointer
 abbrev steps_on : TypedProgram
 steps_on = functions (defined 5 int 1 (named 112 to_int ∷ []) 31 (Return (at 14) (Some (Of (at 26) int (Binary Add
     (loaded (Of (at 21) int (Through (Of (at 23) to_int (Move (local 22 to_int 0) (literal 23 1) Forward Old)))))
@@ -101,7 +101,7 @@ writes_twice = functions (
 abbrev wrote : ℕ → ℤ → Path × ℤ
 wrote argument number = (record { root = root.Wrote 1 argument; cells = 0 ∷ [] }, number)
 
--- of two arguments that name one object the later one holds
+-- if two arguments point to one object, the later one's value remains
 the_later_argument_holds : RunEnds writes_twice 1 (plain (input (root.Call 1) (pos 10) ∷ (wrote 0 (pos 5) ∷ (wrote 1 (pos 7) ∷ [])))) USUAL
     (event 51 (Callee 0) ∷ event 51 (Look true) ∷ event 51 (Look true) ∷ event 58 (Wrap Same) ∷ []) (Done (returned.Number (pos 17)))
 unfolding runs.perform
@@ -128,7 +128,7 @@ leaves_a_switch = functions (defined 5 int 1 (named 110 int ∷ []) 83 (
     Break (at 68) ∷ [])))) ∷ (
     Return (at 75) (Some (value 82 int 0)) ∷ [])) ∷ [])
 
--- a `break` leaves the nearest switch, a `continue` goes on with the loop
+-- a `break` leaves the nearest switch, a `continue` continues the loop
 breaks_out_of_a_switch_and_continues_a_loop :
     RunEnds leaves_a_switch 0 (plain (given 110 (pos 5) ∷ [])) USUAL (event 23 (CaseOf 1) ∷ event 23 (CaseOf 0) ∷ []) (Done (returned.Number (pos 0)))
 unfolding runs.perform
@@ -143,7 +143,7 @@ jumps_in = functions (defined 5 int 1 (named 110 int ∷ []) 57 (
     Label (at 37) 0 (Run (at 40) (Of (at 41) int (Assign (local 40 int 0) (Of (at 43) int (Binary Sub (value 42 int 0) (literal 44 1)))))) ∷ [])))) ∷ (
     Return (at 48) (Some (value 55 int 0)) ∷ []))) ∷ [])
 
--- the loop goes on after the label
+-- the loop continues after the label
 lands_in_a_loop : RunEnds jumps_in 0 (plain (given 110 (pos 1) ∷ [])) USUAL (event 43 (Wrap Same) ∷ event 22 (Branch false) ∷ [])
     (Done (returned.Number (pos 0)))
 unfolding runs.perform
@@ -157,13 +157,13 @@ turns_and_labels_are_counted_apart : RunEnds jumps_in 0 (plain (given 110 (pos 9
 unfolding runs.perform
 turns_and_labels_are_counted_apart = ends_so jumps_in 0 (plain (given 110 (pos 9) ∷ [])) USUAL 200 refl
 
--- int f(int*p,int n){return p[n]!=0;} of a smaller data model
+-- int f(int*p,int n){return p[n]!=0;} with the smaller data model
 abbrev small : TypedProgram
 small = record (functions (defined 5 int 2 (named 112 to_int ∷ (named 110 int ∷ [])) 38 (
     Return (at 20) (Some (Of (at 31) int (Compare Differs (loaded (Of (at 28) int (Index (value 27 to_int 0) (value 29 int 1) PointerFirst))) (literal 33 0))))
     ∷ []) ∷ [])) { model = Ilp32 }
 
--- there a start block of ints has 2^20 elements
+-- there a start block of `int`s has 2^20 elements
 reads_the_last_of_a_small_start_block : RunEnds small 0 (plain (given 110 (pos 1048575) ∷ (given 112 (pos 1) ∷ []))) USUAL
     (event 28 (Look true) ∷ event 28 (Truth true) ∷ event 28 (Truth true) ∷ event 28 (Wrap Same) ∷ event 28 (Look true) ∷ event 28 (Truth true)
     ∷ event 28 (Truth true) ∷ event 28 (Offset 4194300) ∷ event 31 (Truth false) ∷ []) (Done (returned.Number (pos 0)))

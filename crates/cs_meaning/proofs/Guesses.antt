@@ -31,7 +31,7 @@ two_guesses_are_used : RunEnds contradicts 0 (record { inputs = []; guesses = gu
 unfolding runs.perform
 two_guesses_are_used = ends_so contradicts 0 (record { inputs = []; guesses = guess 1 (pos 1) ∷ (guess 3 (pos 1) ∷ []) }) USUAL 60 refl
 
--- the guess at the test's event isn't used, nor is one out of the range of a truth
+-- the test's event can't be guessed, and a guess that is neither 0 nor 1 isn't used for a comparison
 a_test_has_no_guess : RunEnds contradicts 0 (record { inputs = []; guesses = guess 1 (pos 2) ∷ (guess 2 (pos 1) ∷ []) }) USUAL
     (event 24 (Truth false) ∷ event 20 (Branch false) ∷ []) (Done (returned.Number (pos 0)))
 unfolding runs.perform
@@ -49,7 +49,7 @@ a_product_is_guessed : RunEnds multiplies 0 (record { inputs = given 120 (pos 1)
 unfolding runs.perform
 a_product_is_guessed = ends_so multiplies 0 (record { inputs = given 120 (pos 1) ∷ []; guesses = guess 1 (pos 7) ∷ [] }) USUAL 60 refl
 
--- of two guesses at one event the first counts, even where it can't be used
+-- of two guesses at one event the first counts, even if it can't be used
 the_first_of_two_counts : RunEnds multiplies 0 (record { inputs = given 120 (pos 1) ∷ []; guesses = guess 1 (pos 4294967296) ∷ (guess 1 (pos 7) ∷ []) })
     USUAL (event 24 (Wrap Same) ∷ event 26 (Truth false) ∷ event 20 (Branch false) ∷ []) (Done (returned.Number (pos 0)))
 unfolding runs.perform
@@ -62,7 +62,7 @@ compares_null =
     functions (defined 5 int 1 (named 112 to_int ∷ []) 26
     (Return (at 14) (Some (Of (at 22) int (Compare Equal (value 21 to_int 0) (Of (at 24) to_int Null)))) ∷ []) ∷ [])
 
--- an equality that the objects decide has no guess
+-- an equality that the objects decide can't be guessed
 no_guess_at_null : RunEnds compares_null 0 (record { inputs = given 112 (pos 1) ∷ []; guesses = guess 3 (pos 1) ∷ [] }) USUAL
     (event 22 (Look true) ∷ event 22 (Look false) ∷ event 22 (Truth false) ∷ []) (Done (returned.Number (pos 0)))
 unfolding runs.perform

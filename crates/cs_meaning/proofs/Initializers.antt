@@ -46,7 +46,7 @@ moves_null : RunEnds reads_of_three 0 (plain (given 105 (pos 2) ∷ [])) USUAL (
 unfolding runs.perform
 moves_null = ends_so reads_of_three 0 (plain (given 105 (pos 2) ∷ [])) USUAL 40 refl
 
--- null moved by 0 stays null, and can't be read
+-- null moved by 0 remains null, and can't be read
 leaves_null : RunEnds reads_of_three 0 (plain []) USUAL (event 31 (Look false) ∷ event 31 (Look false) ∷ []) (Fault kind.Null (at 31))
 unfolding runs.perform
 leaves_null = ends_so reads_of_three 0 (plain []) USUAL 40 refl
@@ -70,7 +70,7 @@ reads_a_byte : RunEnds (text_of (97 ∷ (255 ∷ []))) 0 (plain (given 105 (pos 
 unfolding runs.perform
 reads_a_byte = ends_so (text_of (97 ∷ (255 ∷ []))) 0 (plain (given 105 (pos 1) ∷ [])) USUAL 40 refl
 
--- what the text leaves out is zero
+-- elements after the text are zero
 reads_after_the_text : RunEnds (text_of (97 ∷ (255 ∷ []))) 0 (plain (given 105 (pos 2) ∷ [])) USUAL
     (event 49 (Look true) ∷ event 49 (Truth true) ∷ event 49 (Truth true) ∷ event 49 (Wrap Same) ∷ event 49 (Look true) ∷ event 49 (Truth true)
     ∷ event 49 (Truth true) ∷ event 49 (Offset 2) ∷ []) (Done (returned.Number (pos 0)))

@@ -1,4 +1,4 @@
--- An expression without an event keeps the things to do, the visits and the frames.
+-- An expression without events doesn't change what remains to be done, the visits and the frames.
 use Rattle.std.proofs.Common.{◌≡◌, ℕ, ◌+◌, true, false, not, List, length, Option, Some, None, nat_lt, if◌then◌else◌, refl}
 use Rattle.cs_types.specs.Shape.{Shape, integer}
 use Rattle.cs_ast.specs.declared.place.Place.{Place}
@@ -26,7 +26,7 @@ use Rattle.cs_meaning.specs.Expressions.{goes_on_to, goes_to, choose_form, choos
 use Rattle.cs_meaning.proofs.Owing.{owes_if, owes_truth, owes_branch, owes_operate, owes_convert_number, owes_convert, owes_sum, owes_compare, owes_difference}
 use Rattle.cs_meaning.proofs.Owing.{owes_arrow, owes_set, owes_load, owes_store}
 
--- a state with the same to be done, the same visits and the same callers
+-- a state with the same remaining items, visits and callers
 pub record Keeps (m next : State) : Type 0 where
   pub visits : next.frame.visits ≡ m.frame.visits
   pub callers : next.callers ≡ m.callers

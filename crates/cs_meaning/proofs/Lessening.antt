@@ -1,4 +1,4 @@
--- Every silent step of the reference machine lessens the turns, or the weight without more turns.
+-- Every silent step of the reference machine lowers the number of turns, or keeps it and lowers the weight.
 use Rattle.std.proofs.Common.{◌≡◌, ℕ, ◌+◌, ◌<◌, ◌≤◌, inl, inr, Bool, true, false, List, [], ◌∷◌, Option, Some, None, nat_lt}
 use Rattle.std.proofs.Common.{slice_get, if◌then◌else◌, refl, ap, arith}
 use Rattle.std.proofs.lemmas.Bool.Decides.{nat_tests}
@@ -31,11 +31,11 @@ use Rattle.cs_meaning.proofs.Keeping.{Keeps, act_keeps, fetch_keeps, choose_keep
 use Rattle.cs_meaning.proofs.Weights.{weigh, weigh_some_initial, weigh_some, weigh_statement, weigh_again, weigh_item, weigh_items, weigh_frames, weight}
 use Rattle.cs_meaning.proofs.Weights.{visits_left, turns_in, turns, one_visit_less}
 
--- a state below another one that has so much more weight
+-- a state below another one with so much more weight
 abbrev Under : ℕ → State → ℕ → State → Type 0
 Under most m extra next = IsBelow (turns most) weight (turns most m) (extra + weight m) next
 
--- a state with the same frames and visits, and less to be done
+-- a state with the same frames and visits, and fewer remaining items
 still : (most : ℕ) (m next : State) (extra : ℕ) → next.frame.visits ≡ m.frame.visits → next.callers ≡ m.callers
     → weigh_items next.frame.todo < extra + weigh_items m.frame.todo → Under most m extra next
 still most m next extra same_visits same_callers less =
@@ -44,7 +44,7 @@ still most m next extra same_visits same_callers less =
     let c : weigh_frames next.callers ≡ weigh_frames m.callers = ap weigh_frames same_callers in
     inr (omega arith, omega arith)
 
--- what an expression keeps is below, once its item is done
+-- a state that an expression keeps is below, once its item is done
 kept_under : (most : ℕ) (m : State) (extra : ℕ) → 0 < extra → (next : State) → Keeps m next → Under most m extra next
 kept_under most m extra some next kept =
     let a : weigh_items next.frame.todo ≡ weigh_items m.frame.todo = ap weigh_items kept.todo in
@@ -53,7 +53,7 @@ kept_under most m extra some next kept =
 kept_owed : (most : ℕ) (m : State) {act : Act State} → Owes (Keeps m) act → Owes (Under most m 1) act
 kept_owed most m owed = owes_wider (Keeps m) (Under most m 1) (kept_under most m 1 (omega arith)) owed
 
--- a counted point that is reached once more leaves fewer turns
+-- one more visit of a counted point lowers the number of turns
 visited : (budgets : RunBudgets) (m before : State) (counted_point count extra : ℕ) → m.frame.visits ≡ before.frame.visits
     → m.callers ≡ before.callers → slice_get m.frame.visits counted_point ≡ Some count → nat_lt count budgets.visits ≡ true
     → Under budgets.visits before extra (with_visits counted_point (count + 1) m)
@@ -85,7 +85,7 @@ owes_counted_point : (budgets : RunBudgets) (at : Place) (kind : PointKind) (cou
 owes_counted_point budgets at kind counted_point m before extra same_visits same_callers =
     counted_point_counted budgets at kind m before counted_point extra (slice_get m.frame.visits counted_point) same_visits same_callers refl
 
--- what is below some weight is below more
+-- a state below some weight is below a greater one
 as_much : (most : ℕ) (m next : State) (much more : ℕ) → much ≤ more → IsBelow (turns most) weight (turns most m) much next
     → IsBelow (turns most) weight (turns most m) more next
 as_much most m next much more h (inl fewer) = inl fewer
@@ -94,7 +94,7 @@ as_much most m next much more h (inr light) =
     let lighter = light.1 in
     inr (as_few, omega arith)
 
--- a step that leads on to a state with as many frames and visits and less to be done
+-- a step to a state with the same frames and visits, and fewer remaining items
 goes_light : (most : ℕ) (m next : State) (extra : ℕ) → next.frame.visits ≡ m.frame.visits → next.callers ≡ m.callers
     → weigh_items next.frame.todo < extra + weigh_items m.frame.todo → Owes (Under most m extra) (Goes next)
 goes_light most m next extra same_visits same_callers less = owes_next (still most m next extra same_visits same_callers less)
@@ -266,6 +266,6 @@ module _ (program : TypedProgram) (budgets : RunBudgets) where
       (λ next below. as_much budgets.visits m next (weigh_item item + weight (to_do following m)) (weight m) (omega arith) below)
       (item_owes item (to_do following m))
 
-  -- each silent step leaves fewer turns, or as many and less weight
+  -- each silent step lowers the number of turns, or keeps it and lowers the weight
   pub lessens : Lessens (step program budgets) (turns budgets.visits) weight
   lessens m = step_owes m.frame.todo m refl

@@ -1,4 +1,4 @@
--- Samples of members after pointers.
+-- Samples of struct members through pointers.
 use Rattle.std.proofs.Common.{ℕ, pos, [], ◌∷◌, Some, None, true, false, refl}
 use Rattle.cs_types.specs.declared.int_type.IntType.TheVariants.{Int}
 use Rattle.cs_types.specs.Shape.{Shape, integer, pointer, struct}
@@ -56,7 +56,7 @@ head_is_null : RunEnds drops_second 1 (plain []) USUAL (event 56 (Look false) �
 unfolding runs.perform
 head_is_null = ends_so drops_second 1 (plain []) USUAL 60 refl
 
--- the second of the list is null unless an input says otherwise
+-- the second node of the list is null unless an input says otherwise
 second_is_null : RunEnds drops_second 1 (plain (given 104 (pos 1) ∷ [])) USUAL
     (event 56 (Look true) ∷ event 56 (Look true) ∷ event 56 (Truth true) ∷ event 56 (Truth true) ∷ event 56 (Offset 8) ∷ event 72 (Look false) ∷ [])
     (Fault kind.Null (at 72))

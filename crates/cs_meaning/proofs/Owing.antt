@@ -1,4 +1,4 @@
--- The condition on each operation without an event: what comes after it has to satisfy it.
+-- For each operation, what holds of the state after it if it has no event.
 use Rattle.std.proofs.Common.{ℕ, ◌+◌, ◌*◌, ℤ, pos, int_le, int_lt, int_eq, ◌&&◌, ◌||◌, Bool, true, false, List, [], ◌∷◌, Option, Some}
 use Rattle.std.proofs.Common.{None, if◌then◌else◌}
 use Rattle.cs_types.specs.Shape.{Shape, void, integer, pointer, array, struct}
@@ -31,7 +31,7 @@ use Rattle.cs_meaning.specs.Operators.{convert, sum, equality, in_relation, comp
 use Rattle.cs_meaning.specs.Machine.{Operand, Scalar, Whole, Nothing, State}
 
 module _ (P : State → Type 0) where
-  -- either of two acts
+  -- one of two acts
   pub owes_if : (b : Bool) (one other : Act State) → Owes P one → Owes P other → Owes P (if b then one else other)
   owes_if true one other h g = h
   owes_if false one other h g = g
@@ -229,7 +229,7 @@ module _ (P : State → Type 0) where
       (onward (changed (write_operand program (type_of e) offset operand) object memory))
       (h (changed (write_operand program (type_of e) offset operand) object memory))))
 
--- what owes one kind of state owes a wider one
+-- what an act owes of one property of states, it owes of a weaker one
 pub owes_wider : (P Q : State → Type 0) → ((next : State) → P next → Q next) → {act : Act State} → Owes P act → Owes Q act
 owes_wider P Q wider (owes_next {next = next} p) = owes_next (wider next p)
 owes_wider P Q wider stops = stops

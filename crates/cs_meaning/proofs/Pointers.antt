@@ -37,13 +37,13 @@ clears count = functions (defined 5 int 1 (named 110 int ∷ (named 97 (ints cou
     (Run (at 45) (Of (at 49) int (Assign (element 46 count 45 (value 47 int 2)) (literal 50 0)))) ∷ (
     Return (at 52) (Some (loaded (element 60 count 59 (literal 61 0)))) ∷ [])))) ∷ [])
 
--- what a round of the loop shows
+-- the events of one iteration of the loop
 abbrev round : ℕ → List Event
 round offset =
     event 38 (Truth true) ∷ event 29 (Branch true) ∷ event 46 (Look true) ∷ event 46 (Truth true) ∷ event 46 (Truth true) ∷ event 46 (Wrap Same)
     ∷ event 46 (Look true) ∷ event 46 (Truth true) ∷ event 46 (Truth true) ∷ event 46 (Offset offset) ∷ event 42 (Wrap Same) ∷ []
 
--- a store after the last element is out of bounds: of the two order tests the second one fails
+-- a store after the last element is out of bounds: the second of the two order tests fails
 stores_after : RunEnds (clears 3) 0 (plain (given 110 (pos 4) ∷ [])) USUAL
     (round 0 ++ round 4 ++ round 8 ++ event 38 (Truth true) ∷ event 29 (Branch true) ∷ event 46 (Look true) ∷ event 46 (Truth true)
     ∷ event 46 (Truth true) ∷ event 46 (Wrap Same) ∷ event 46 (Look true) ∷ event 46 (Truth true) ∷ event 46 (Truth false)
@@ -58,7 +58,7 @@ reads_unset : RunEnds (clears 3) 0 (plain []) USUAL
 unfolding runs.perform
 reads_unset = ends_so (clears 3) 0 (plain []) USUAL 100 refl
 
--- a fifth turn of a loop, where four are the budget
+-- a fifth visit of a loop head, with a budget of four
 turns_too_often : RunEnds (clears 9) 0 (plain (given 110 (pos 4) ∷ [])) USUAL (round 0 ++ round 4 ++ round 8 ++ round 12) (Over Visits (at 29))
 unfolding runs.perform
 turns_too_often = ends_so (clears 9) 0 (plain (given 110 (pos 4) ∷ [])) USUAL 200 refl
@@ -72,7 +72,7 @@ following = functions (defined 5 int 0 (named 97 (ints 4) ∷ (named 112 to_int 
     ∷ (
     Return (at 49) (Some (loaded (Of (at 56) int (Through (value 57 to_int 1))))) ∷ [])))) ∷ [])
 
--- a pointer after the last element may be made and compared, but not followed
+-- a pointer to the end of an array may be computed and compared, but not dereferenced
 follows_past_end : RunEnds following 0 (plain []) USUAL
     (event 29 (Look true) ∷ event 29 (Truth true) ∷ event 29 (Truth true) ∷ event 29 (Wrap Same) ∷ event 36 (Look true) ∷ event 36 (Look true)
     ∷ event 36 (Truth false) ∷ event 32 (Branch false) ∷ event 56 (Look true) ∷ event 56 (Truth true) ∷ event 56 (Truth false)
@@ -91,7 +91,7 @@ subtracts_unrelated : RunEnds apart 0 (plain []) USUAL (event 35 (Look true) ∷
 unfolding runs.perform
 subtracts_unrelated = ends_so apart 0 (plain []) USUAL 30 refl
 
--- int f(int*p,int*q){return p<q;}, both null or neither
+-- int f(int*p,int*q){return p<q;}, with both null or neither
 abbrev orders : TypedProgram
 orders = functions (defined 5 int 2 (named 112 to_int ∷ (named 113 to_int ∷ [])) 31 (
     Return (at 20) (Some (Of (at 28) int (Compare Less (value 27 to_int 0) (value 29 to_int 1)))) ∷ []) ∷ [])
@@ -117,7 +117,7 @@ writes_literal = record (functions (defined 6 int 0 (named 115 chars ∷ []) 35 
     (Of (at 30) (integer Char) (Assign (Of (at 27) (integer Char) (Index (value 26 chars 0) (literal 28 0) PointerFirst))
     (Of (at 30) (integer Char) (Convert (literal 31 120))))) ∷ [])) ∷ [])) { literals = (97 ∷ (98 ∷ [])) ∷ [] }
 
--- a store to a literal is a fault after its bounds
+-- a store to a string literal is a fault, after the bounds are checked
 writes_const : RunEnds writes_literal 0 (plain []) USUAL
     (event 27 (Look true) ∷ event 27 (Truth true) ∷ event 27 (Truth true) ∷ event 27 (Wrap Same) ∷ event 30 (Wrap Same) ∷ event 27 (Look true)
     ∷ event 27 (Truth true) ∷ event 27 (Truth true) ∷ event 27 (Offset 0) ∷ []) (Fault kind.ConstWrite (at 27))

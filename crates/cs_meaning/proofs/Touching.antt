@@ -16,7 +16,7 @@ use Rattle.cs_events.specs.Runs.{Performed, Continues, Finishes}
 use Rattle.cs_meaning.specs.Machine.{State}
 use Rattle.cs_meaning.proofs.Building.{at, int, literal, local, loaded, value, sequence, named, defined, functions, USUAL, plain, come_to}
 
--- what a run has touched that has ended, and what it has read
+-- the touches of a run that has ended, and the paths that it has read
 abbrev touched : Performed State → Option (List Touch × List Lookup)
 touched (Continues m log) = None
 touched (Finishes outcome log) = Some (log.touches, log.read)
@@ -29,7 +29,7 @@ stores_dead = functions (defined 5 int 1 (named 120 int ∷ (named 97 int ∷ []
     If (at 26) (Of (at 30) int (Compare Differs (value 29 int 0) (value 32 int 0))) (Return (at 34) (Some (literal 41 3))) ∷ (
     Return (at 43) (Some (value 50 int 1)) ∷ [])))) ∷ [])
 
--- the store of an initializer has the place of its `=`; a `return` is met after its value; a parameter isn't touched by its setting
+-- the store of an initializer has the position of its `=`; a `return` is visited after its value; passing an argument doesn't touch the parameter
 touches_locals : touched (come_to stores_dead 0 (plain []) USUAL 60) ≡ Some (
   Meets Enter (at 5)
       ∷ (Stores 0 1 (at 19)
@@ -51,7 +51,7 @@ turns_once = record (functions (defined 11 int 0 (named 105 int ∷ []) 51 (
       globals = record { name = 103 ∷ []; at = at 5; ty = int; constant = false; initial = None } ∷ [];
     }
 
--- a head is met before each test; an update loads and stores; a file-scope object is read, and not touched
+-- a head is visited before each test; an update loads and stores; a file-scope object is read, and not touched
 touches_turns : touched (come_to turns_once 0 (plain []) USUAL 80) ≡ Some (
   Meets Enter (at 11)
       ∷ (Clears 0 0 (at 23)

@@ -1,4 +1,4 @@
--- The weight of consecutive things to do.
+-- The weights of lists of items.
 use Rattle.std.proofs.Common.{◌≡◌, ℕ, ◌+◌, ◌<◌, ◌≤◌, List, [], ◌∷◌, ◌++◌, refl, ap, arith}
 use Rattle.cs_types.specs.Shape.{Shape, void, integer, pointer, array, struct}
 use Rattle.cs_ast.specs.declared.place.Place.{Place}
@@ -18,7 +18,7 @@ use Rattle.cs_meaning.specs.Expressions.{evaluates_all, evaluates_both, evaluate
 use Rattle.cs_meaning.specs.Statements.{stores_pieces}
 use Rattle.cs_meaning.proofs.Weights.{weigh, weigh_form, weigh_all, weigh_initial, weigh_initials, weigh_statements, weigh_items}
 
--- statements in a row weigh what they weigh one by one
+-- the weight of a list of statements is the sum of their weights
 pub executes_weigh : (statements : Statements) (counted_point : ℕ) (following : List Item)
     → weigh_items (executes statements counted_point following) ≡ weigh_statements statements + weigh_items following
 executes_weigh Empty counted_point following = omega arith
@@ -26,7 +26,7 @@ executes_weigh (Then first others) counted_point following =
     let rest = executes_weigh others (counted_point + counted_points first) following in
     omega arith
 
--- pieces one after another are stored one after another
+-- the stores of a list of pieces follow one another
 stores_append : (at : Place) (declaration : ℕ) (ones others : List Piece) (following : List Item)
     → stores_pieces at declaration (ones ++ others) following ≡ stores_pieces at declaration ones (stores_pieces at declaration others following)
 stores_append at declaration [] others following = refl
@@ -36,7 +36,7 @@ stores_append at declaration (Spelled offset bytes ∷ ones) others following =
     ap (λ items. Spell declaration offset bytes ∷ items) (stores_append at declaration ones others following)
 
 mutual
-  -- an initializer weighs what its pieces do
+  -- an initializer weighs as much as its pieces
   pub pieces_weigh : (program : TypedProgram) (at : Place) (declaration : ℕ) (ty : Shape) (from : ℕ) (initial : Initial) (following : List Item)
       → weigh_items (stores_pieces at declaration (pieces program ty from initial) following) ≡ weigh_initial initial + weigh_items following
   pieces_weigh program at declaration ty from (Value e) following = omega arith
@@ -55,7 +55,7 @@ mutual
       let b = parts_weigh program at declaration ty from (number + 1) others following in
       omega arith
 
--- what is left after a loop, and after its body, weighs no more
+-- the items that remain after a loop, or after its body, weigh no more
 pub broken_light : (items : List Item) → weigh_items (broken_out items) ≤ weigh_items items
 broken_light [] = omega arith
 broken_light ((Evaluate e) ∷ items) =
@@ -172,7 +172,7 @@ continued_light (Leave ∷ items) =
     let rest = continued_light items in
     omega arith
 
--- the arguments of a call weigh what they weigh one by one
+-- the weight of a call's arguments is the sum of their weights
 all_weigh : (arguments : TypedList) (following : List Item) → weigh_items (evaluates_all arguments following) ≡ weigh_all arguments + weigh_items following
 all_weigh NoMore following = omega arith
 all_weigh (Further first others) following =
@@ -192,7 +192,7 @@ operand_weighs (pointer target) a following = refl
 operand_weighs (array element count) a following = refl
 operand_weighs (struct number) a following = refl
 
--- the parts of an expression, with what is done with them, weigh less than the expression by two
+-- the parts of an expression, with what is done with them, weigh at least two less than the expression
 parts_light : (e : Typed) (ty : Shape) (form : Form) (following : List Item)
     → weigh_items (evaluates_form e ty form following) ≤ (weigh_form form + 2) + weigh_items following
 parts_light e ty (Number n) following = omega arith
@@ -235,7 +235,7 @@ parts_light e ty (Allocate allocator arguments element) following =
     omega arith
 parts_light e ty (Free a) following = omega arith
 
--- the look at a call's result weighs one
+-- the check of a call's result weighs one
 uses_light : (e : Typed) (following : List Item) → weigh_items (uses e following) ≤ 1 + weigh_items following
 uses_light (Of at ty (Number n)) following = omega arith
 uses_light (Of at ty Null) following = omega arith
@@ -267,7 +267,7 @@ uses_light (Of at ty (Call function arguments)) following = omega arith
 uses_light (Of at ty (Allocate allocator arguments element)) following = omega arith
 uses_light (Of at ty (Free a)) following = omega arith
 
--- an expression weighs more than its parts, what is done with them, and the look at its result
+-- an expression weighs more than its parts, what is done with them, and the check of its result
 pub evaluates_light : (e : Typed) (following : List Item) → weigh_items (evaluates e (uses e following)) < weigh e + weigh_items following
 evaluates_light (Of at ty form) following =
     let a = parts_light (Of at ty form) ty form (uses (Of at ty form) following) in

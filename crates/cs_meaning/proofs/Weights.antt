@@ -1,5 +1,5 @@
--- The measure of a run that continues without an event: turns, which are the visits that its frames may still make, and the weight of
--- the things to do.
+-- How much of a run without events remains: the turns, which are the visits that its frames may still make, and the weight of the
+-- remaining items.
 use Rattle.std.proofs.Common.{◌≡◌, ℕ, zero, suc, ◌+◌, ◌-◌, ◌<◌, List, [], ◌∷◌, Option, Some, None, slice_get, slice_set, arith}
 use Rattle.cs_ast.specs.TypedTree.{Typed, Of, Form, Number, Null, Text, Local, Global, Through, Index, Member, Arrow, Load, Address, Decay, Convert, Unary, Not}
 use Rattle.cs_ast.specs.TypedTree.{Binary, Compare, Sum, Difference, And, Or, Choice, Comma, Assign, Update, Move, Call, Allocate, Free, TypedList, NoMore}
@@ -89,7 +89,7 @@ abbrev mutual
   weigh_statements Empty = 0
   weigh_statements (Then first others) = weigh_statement first + weigh_statements others
 
--- what comes after the body of a loop
+-- what is done after the body of a loop
 abbrev pub weigh_again : Statement → ℕ
 weigh_again (While at test body) = 1
 weigh_again (Do at body test) = weigh test + 1
@@ -121,7 +121,7 @@ abbrev pub weigh_items : List Item → ℕ
 weigh_items [] = 0
 weigh_items (item ∷ items) = weigh_item item + weigh_items items
 
--- a frame weighs one more than what is to be done in it
+-- a frame weighs one more than its remaining items
 abbrev pub weigh_frames : List Frame → ℕ
 weigh_frames [] = 0
 weigh_frames (frame ∷ frames) = (1 + weigh_items frame.todo) + weigh_frames frames
@@ -129,7 +129,7 @@ weigh_frames (frame ∷ frames) = (1 + weigh_items frame.todo) + weigh_frames fr
 abbrev pub weight : State → ℕ
 weight m = (1 + weigh_items m.frame.todo) + weigh_frames m.callers
 
--- how often counted points may still be reached that were reached so often
+-- how many more visits of counted points the budget allows, after these
 abbrev pub visits_left : ℕ → List ℕ → ℕ
 visits_left most [] = 0
 visits_left most (count ∷ counts) = (most - count) + visits_left most counts
@@ -141,7 +141,7 @@ turns_in most (frame ∷ frames) = visits_left most frame.visits + turns_in most
 abbrev pub turns : ℕ → State → ℕ
 turns most m = visits_left most m.frame.visits + turns_in most m.callers
 
--- a counted point that is reached once more may be reached once less
+-- one more visit of a counted point leaves one less
 pub one_visit_less : (most : ℕ) (counts : List ℕ) (counted_point count : ℕ) → slice_get counts counted_point ≡ Some count → count < most
     → visits_left most (slice_set counts counted_point (count + 1)) < visits_left most counts
 one_visit_less most [] counted_point count h less = cc

@@ -1,4 +1,4 @@
--- Successive changes of one object: for the contracts of what writes several scalars.
+-- Several changes of one object: for the contracts of functions that write several scalars.
 use Rattle.std.proofs.Common.{◌≡◌, ◌⊎◌, inl, inr, ℕ, ◌+◌, Bool, true, false, List, [], ◌∷◌, Option, Some, None, refl, sym, ap}
 use Rattle.std.proofs.Common.{◌∙◌, arith}
 use Rattle.std.specs.Prelude.{option_map, unwrap_or, if◌then◌else◌}
@@ -17,7 +17,7 @@ use Rattle.cs_meaning.specs.Access.{write_cells, write_bytes}
 use Rattle.cs_memory.specs.Reaching.{spells}
 use Rattle.cs_meaning.specs.Memory.{Block, Memory, changed, write_cell}
 
--- an object that is changed and changed again
+-- an object that is changed twice
 pub changed-changed : (f g : Block → Block) (object : Object) (memory : Memory)
     → changed g object (changed f object memory) ≡ changed (λ b. g (f b)) object memory
 changed-changed f g object memory = fun_ext (λ other. at (same_object object other) (memory other))
@@ -28,7 +28,7 @@ changed-changed f g object memory = fun_ext (λ other. at (same_object object ot
     at true None = refl
     at false found = refl
 
--- an object of which nothing is changed
+-- an object without a change
 pub changed-same : (object : Object) (memory : Memory) → changed (λ b. b) object memory ≡ memory
 changed-same object memory = fun_ext (λ other. at (same_object object other) (memory other))
   where
@@ -44,7 +44,7 @@ pub one_more_written : (from : ℕ) (object : Object) (memory after : Memory) (l
 one_more_written from object memory after left rest cells others o cell split split' is =
     rw (is, split, split') (changed-changed (write_cell (from + o) cell) (write_cells from rest others) object memory)
 
--- none is left to be written
+-- no scalar remains to be written
 pub none_written : (from : ℕ) (object : Object) (memory : Memory) (left : List ℕ) (cells : List Cell) → (left ≡ []) ⊎ (cells ≡ [])
     → changed (write_cells from left cells) object memory ≡ memory
 none_written from object memory left cells (inl none) = rw none (changed-same object memory)
@@ -59,14 +59,14 @@ one_more_spelled program ty at object memory after left rest byte split is =
     rw (is, split) (changed-changed (write_cell at (byte_cell program.model (unwrap_or (scalar_of program ty at) void) byte)) (spells program ty (at + 1) rest)
     object memory)
 
--- a text in an object of a type
+-- a string literal in an object of a type
 pub write_bytes-spells : (program : TypedProgram) (from : ℕ) (bytes : List ℕ) (block : Block)
     → write_bytes program from bytes block ≡ spells program block.shape from bytes block
 write_bytes-spells program from [] block = refl
 write_bytes-spells program from (byte ∷ bytes) block =
     write_bytes-spells program (from + 1) bytes (write_cell from (byte_cell program.model (unwrap_or (scalar_of program block.shape from) void) byte) block)
 
--- one object is known alike by each of its names
+-- memory is the same at objects that compare as the same
 pub same-known : (memory : Memory) (one other : Object) → same_object one other ≡ true → memory other ≡ memory one
 same-known memory (StartBlock p) (StartBlock q) e = ap (λ x. memory (StartBlock x)) (sym (path_order-tie p q (tie (path_order p q) refl e)))
   where
@@ -81,7 +81,7 @@ same-known memory (LocalObject f m) (LocalObject g n) e = let frame : f ≡ g = 
 same-known memory (HeapBlock m) (HeapBlock n) e = let same : m ≡ n = grind (arith, nat_tests) in ap (λ x. memory (HeapBlock x)) (sym same)
 same-known memory one other e = absurd (cc)
 
--- what is changed is known: two ways to change it that agree there are one
+-- two changes with the same result for the object are the same
 pub changed-as : (f g : Block → Block) (object : Object) (memory : Memory) → option_map f (memory object) ≡ option_map g (memory object)
     → changed f object memory ≡ changed g object memory
 changed-as f g object memory same = fun_ext (λ other. at other (same_object object other) refl)
@@ -91,11 +91,11 @@ changed-as f g object memory same = fun_ext (λ other. at other (same_object obj
     at other true e = rw (same-known memory object other e) same
     at other false e = refl
 
--- an object that isn't there isn't changed
+-- an object that doesn't exist isn't changed
 pub changed-none : (f : Block → Block) (object : Object) (memory : Memory) → memory object ≡ None → changed f object memory ≡ memory
 changed-none f object memory none = changed-as f (λ b. b) object memory (rw none refl) ∙ changed-same object memory
 
--- no byte is left to be written
+-- no byte remains to be written
 pub none_spelled : (program : TypedProgram) (ty : Shape) (at : ℕ) (object : Object) (memory : Memory) (left : List ℕ) → left ≡ []
     → changed (spells program ty at left) object memory ≡ memory
 none_spelled program ty at object memory left none = rw none (changed-same object memory)

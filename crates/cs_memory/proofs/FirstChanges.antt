@@ -11,7 +11,7 @@ use Rattle.cs_objects.specs.declared.blocks.Block.{Block}
 use Rattle.cs_objects.specs.BlockView.{block_of}
 use Rattle.cs_memory.specs.MemoryView.{changed_at, static_at}
 
--- the element that is lent, if there is one
+-- the element that is borrowed, if there is one
 pub lent : {X : Type 0} (xs : List X) (i : ℕ) (r : Option (Bor X)) → IsItemAt xs i r → option_copied r ≡ slice_get xs i
 lent xs i None is = sym (slice_get_past xs i is.3)
 lent xs i (Some x) is =

@@ -22,7 +22,7 @@ use Rattle.cs_meaning.specs.Memory.{Memory}
 use Rattle.cs_meaning.specs.Access.{read, read_all}
 
 module _ (s : Setting) (program : TypedProgram) (object : Object) (from : ℕ) where
-  -- one more was read
+  -- one more scalar was read
   pub one_more_read : (log later : Log) (memory after : Memory) (left rest : List ℕ) (x : ℕ) (done more : List Cell) (cell : Cell) → left ≡ x ∷ rest
       → more ≡ done ++ cell ∷ []
       → ((onward : Memory → Cell → Act State) → perform s log (read program memory object (from + x) onward) ≡ perform s later (onward after cell))
@@ -37,14 +37,14 @@ module _ (s : Setting) (program : TypedProgram) (object : Object) (from : ℕ) w
       same : (r : List Cell) → done ++ (cell ∷ r) ≡ more ++ r
       same r = sym (append_assoc done (cell ∷ []) r) ∙ ap (λ xs. xs ++ r) (sym added)
 
-  -- nothing is left to be read
+  -- no scalar remains to be read
   pub all_read : (log : Log) (memory : Memory) (left : List ℕ) (done : List Cell) → left ≡ []
       → (onward : Memory → List Cell → Act State)
       → perform s log (read_all program memory object from left (λ a r. onward a (done ++ r))) ≡ perform s log (onward memory done)
   all_read log memory left done none onward =
       rw none (ap (λ xs. perform s log (onward memory xs)) (append-nil done))
 
-  -- the run ends where one more is read
+  -- the run ends at the next scalar
   pub ends_reading : (stop : Stop) (log later : Log) (memory : Memory) (left rest : List ℕ) (x : ℕ) (done : List Cell) (first : Performed State)
       (onward : Memory → List Cell → Act State) → left ≡ x ∷ rest
       → ((k : Memory → Cell → Act State) → perform s log (read program memory object (from + x) k)
@@ -65,7 +65,7 @@ written_read memory object block from (offset ∷ offsets) (cell ∷ cells) ther
     let others : written_from block from offsets ≡ map (λ (c : Held). Some (cell_of c)) cells = cc in
     rw (there, here) (written_read memory object block from offsets cells there others program (λ after rest. onward after (cell_of cell ∷ rest)))
 
--- a list from an index on, where something stands
+-- the element of a list at an index, and those after it
 pub drop-step : {A : Type 0} (xs : List A) (i : ℕ) (d : A) → i < length xs → drop i xs ≡ get_or xs i d ∷ drop (i + 1) xs
 drop-step [] i d h = absurd (omega arith)
 drop-step (x ∷ xs) zero d h = refl

@@ -13,7 +13,7 @@ use Rattle.cs_objects.specs.declared.blocks.Block.{Block}
 use Rattle.cs_objects.specs.BlockView.{block_of, block_at}
 use Rattle.cs_memory.specs.MemoryView.{local_in, changed_at, memory_of, with_frame}
 
--- what stands in a list once an element was set
+-- the elements of a list, after one was set
 pub slice_get-set : {A : Type 0} (xs : List A) (i n : ℕ) (x : A) → i < length xs
     → slice_get (set xs i x) n ≡ (if i == n then Some x else slice_get xs n)
 slice_get-set [] i n x h = absurd (omega (arith, h))
@@ -27,12 +27,12 @@ pub row_changed : (xs : List Block) (i : ℕ) (old new : Block) (f : meaning.Blo
     → block_of new ≡ f (block_of old) → (n : ℕ) → block_at (set xs i new) n ≡ changed_at f i (block_at xs) n
 row_changed xs i old new f inside is same n = grind (arith, slice_get-set xs i n new inside, slice_get-get_or xs i old inside)
 
--- an object that isn't in a row wasn't changed
+-- an index outside of a row changes nothing
 pub row_stays : (xs : List Block) (i : ℕ) (f : meaning.Block → meaning.Block) → length xs ≤ i
     → (n : ℕ) → block_at xs n ≡ changed_at f i (block_at xs) n
 row_stays xs i f past n = grind (arith, slice_get_past xs i past)
 
--- what stands in a list once an element was added
+-- the elements of a list, after one was appended
 pub slice_get-push : {A : Type 0} (xs : List A) (x : A) (n : ℕ) → slice_get (xs ++ x ∷ []) n ≡ (if n == length xs then Some x else slice_get xs n)
 slice_get-push [] x zero = refl
 slice_get-push [] x (suc n) = grind arith

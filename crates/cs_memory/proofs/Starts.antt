@@ -15,7 +15,7 @@ use Rattle.cs_objects.specs.declared.blocks.Block.{Block}
 use Rattle.cs_objects.specs.BlockView.{block_of}
 use Rattle.cs_memory.specs.MemoryView.{start_in}
 
--- the block was there and was changed
+-- the block exists and is changed
 pub start_changed : (cmp : Path → Path → Ordering) (compare found : Path
     → Ordering) (m n : BTreeMap Path Block) (path : Path) (old new : Block) (f : meaning.Block → meaning.Block)
     → ((p q : Path) → cmp p q ≡ path_order p q) → ((q : Path) → compare q ≡ path_order path q) → ((q : Path) → found q ≡ path_order path q)
@@ -40,7 +40,7 @@ start_changed cmp compare found m n path old new f orders compares finds writes 
         let found : Some old ≡ get_by (path_order other) m = subst (λ (p : Path). Some old ≡ get_by (path_order p) m) (path_order-tie path other e) here in
         ap (option_map block_of) u ∙ (ap Some same ∙ ap (λ (b : Option Block). option_map f (option_map block_of b)) found)
 
--- the block wasn't there
+-- the block doesn't exist
 pub start_stays : (found : Path → Ordering) (m : BTreeMap Path Block) (path : Path) (f : meaning.Block → meaning.Block)
     → ((q : Path) → found q ≡ path_order path q) → None ≡ get_by found m
     → (other : Path) → start_in m other ≡ (if is_equal (path_order path other) then option_map f (start_in m other) else start_in m other)
@@ -56,7 +56,7 @@ start_stays found m path f finds none other =
         let here : None ≡ get_by (path_order other) m = subst (λ (p : Path). None ≡ get_by (path_order p) m) (path_order-tie path other e) none' in
         ap (option_map block_of) (sym here) ∙ ap (λ (b : Option Block). option_map f (option_map block_of b)) here
 
--- the block was there, and stays
+-- the block exists, and remains the same
 pub start_there : (found : Path → Ordering) (m : BTreeMap Path Block) (path : Path) (block : meaning.Block) → ((q : Path) → found q ≡ path_order path q)
     → true ≡ is_some (get_by found m) → (other : Path)
     → start_in m other ≡ (if is_equal (path_order path other) then meaning.or_new block (start_in m other) else start_in m other)
@@ -75,7 +75,7 @@ start_there found m path block finds some other =
     by_order some' Equal e = stays (get_by (path_order other) m)
         (subst (λ (p : Path). true ≡ is_some (get_by (path_order p) m)) (path_order-tie path other e) some')
 
--- the block wasn't there, and is added
+-- the block doesn't exist, and is added
 pub start_added : (cmp : Path → Path → Ordering) (found : Path → Ordering) (m n : BTreeMap Path Block) (path : Path) (new : Block)
     → ((p q : Path) → cmp p q ≡ path_order p q) → ((q : Path) → found q ≡ path_order path q) → false ≡ is_some (get_by found m)
     → Updates cmp m n path (Some new) → (other : Path)

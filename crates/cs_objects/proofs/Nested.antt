@@ -7,7 +7,7 @@ use Rattle.cs_ast.specs.TypedProgram.{TypedProgram}
 use Rattle.cs_meaning.specs.Types.{begins_in_struct, some_member}
 use Rattle.cs_objects.specs.TypeView.{in_member}
 
--- away from its own beginning, a struct has what its members have
+-- except for the wanted struct itself at offset 0, a struct begins there exactly if it does in a member
 pub struct_members : (program : TypedProgram) (wanted depth number offset : ℕ) (members : List Member) → 0 < depth
     → ((number == wanted) && (offset == 0)) ≡ false → members_of program.table number ≡ Some members
     → begins_in_struct program wanted depth number offset ≡ some_member (in_member program wanted (depth - 1) offset) members

@@ -31,7 +31,7 @@ places-moved from by (leaf ∷ leaves) =
     let here : from + (by + leaf.offset) ≡ from + by + leaf.offset = omega arith in
     ap (λ (n : ℕ). n ∷ places_from from (moved by leaves)) here ∙ ap (λ (ns : List ℕ). (from + by + leaf.offset) ∷ ns) (places-moved from by leaves)
 
--- one row of scalars and another
+-- two lists of scalars joined
 places-append : (from : ℕ) (xs ys : List Leaf) → places_from from (xs ++ ys) ≡ places_from from xs ++ places_from from ys
 places-append from xs ys =
     ap (map (λ (offset : ℕ). from + offset)) (map-append (λ (leaf : Leaf). leaf.offset) xs ys)
@@ -48,7 +48,7 @@ module _ (program : TypedProgram) where
 
   -- ---- arrays
 
-  -- the scalars of an array are those of its first element, and after them those of the others
+  -- the scalars of an array are those of its first element, then those of the others
   first_element : (from : ℕ) (element : Shape) (count : ℕ)
       → offsets_from program from (array element (suc count))
       ≡ offsets_from program from element ++ offsets_from program (from + size_of program element) (array element count)
@@ -63,7 +63,7 @@ module _ (program : TypedProgram) where
       by_layout (Some l) = places-append from l.leaves (moved l.size (row count l))
           ∙ ap (λ (ns : List ℕ). places_from from l.leaves ++ ns) (places-moved from l.size (row count l))
 
-  -- an array without elements has none
+  -- an array without elements has no scalars
   no_elements : (from : ℕ) (element : Shape) → offsets_from program from (array element 0) ≡ []
   no_elements from element = by_layout (layout_in element)
     where
@@ -72,7 +72,7 @@ module _ (program : TypedProgram) where
       by_layout None = refl
       by_layout (Some l) = refl
 
-  -- no scalars from one offset on are none from any
+  -- a type without scalars at one offset has none at any other
   none_from : (at from : ℕ) (ty : Shape) → offsets_from program at ty ≡ [] → offsets_from program from ty ≡ []
   none_from at from ty none = by_list (scalar_offsets program ty) none
     where
@@ -80,7 +80,7 @@ module _ (program : TypedProgram) where
       by_list [] h = refl
       by_list (n ∷ ns) h = absurd (cc)
 
-  -- elements without scalars make an array without any
+  -- an array of elements without scalars has none
   pub none_in_array : (at from : ℕ) (element : Shape) (count : ℕ) → offsets_from program at element ≡ []
       → offsets_from program from (array element count) ≡ []
   none_in_array at from element zero none = no_elements from element
@@ -89,7 +89,7 @@ module _ (program : TypedProgram) where
       ∙ (ap (λ (ns : List ℕ). ns ++ offsets_from program (from + size_of program element) (array element count)) (none_from at from element none)
       ∙ none_in_array at (from + size_of program element) element count none)
 
-  -- elements without scalars: nothing more is added
+  -- elements without scalars add nothing
   pub nothing_added : (at left : ℕ) (element : Shape) (made more all : List ℕ) → length more ≡ length made
       → more ≡ made ++ offsets_from program at element
       → made ++ offsets_from program at (array element left) ≡ all → more ≡ all
@@ -116,7 +116,7 @@ module _ (program : TypedProgram) where
 
   -- ---- structs
 
-  -- members that lie side by side
+  -- members side by side
   side_by_side_from : (of_type : Shape → Option Layout) → Extends of_type layout_in → (from low : ℕ) (ms : List Member) (ls : List Layout)
       → member_layouts of_type ms ≡ Some ls → map (λ (m : Member). m.offset) ms ≡ offsets low ls
       → places_from from (side_by_side low ls).leaves ≡ member_offsets program from ms

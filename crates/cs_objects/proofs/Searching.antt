@@ -1,4 +1,4 @@
--- Ascending pieces, and the one nearest to an offset: for the contracts of `ascend` and `nearest`.
+-- Ascending pieces, and the one that is nearest to an offset: for the contracts of `ascend` and `nearest`.
 use Rattle.std.proofs.Common.{◌≡◌, ℕ, zero, suc, ◌<◌, ◌≤◌, Bool, true, false, List, [], ◌∷◌, map, length, take, drop, get_or, refl, sym}
 use Rattle.std.proofs.Common.{◌∙◌, arith}
 use Rattle.std.specs.Prelude.{nat_le, ◌&&◌, IsTrue}
@@ -12,7 +12,7 @@ use Rattle.cs_objects.specs.declared.blocks.Piece.TheVariants as piece
 use Rattle.cs_objects.specs.BlockView.{piece_of}
 use Rattle.cs_objects.specs.PieceOrder.{start_of, end_of, ascends_from}
 
--- pieces that rise: the first one begins there, and the others rise after it
+-- ascending pieces: the first one begins at the offset or after it, and the others ascend from its end
 pub first_rises : (from : ℕ) (p : Piece) (ps : List Piece) → IsTrue (ascends_from from (p ∷ ps))
     → (from ≤ start_of p) × IsTrue (ascends_from (end_of p) ps)
 first_rises from p ps rises = by_test (nat_le from (start_of p)) refl rises
@@ -22,7 +22,7 @@ first_rises from p ps rises = by_test (nat_le from (start_of p)) refl rises
     by_test true e h = (grind (arith, nat_tests), h)
     by_test false e h = absurd (cc)
 
--- one more piece rises
+-- one more piece ascends
 pub one_more_rises : (from : ℕ) (p : Piece) (ps : List Piece) → IsTrue (nat_le from (start_of p)) → IsTrue (ascends_from (end_of p) ps)
     → IsTrue (ascends_from from (p ∷ ps))
 one_more_rises from p ps below rises = by_test (nat_le from (start_of p)) below
@@ -31,13 +31,13 @@ one_more_rises from p ps below rises = by_test (nat_le from (start_of p)) below
     by_test true h = rises
     by_test false h = absurd (cc)
 
--- a piece does not begin after its end
+-- a piece doesn't begin after its end
 start_to_end : (p : Piece) → start_of p ≤ end_of p
 start_to_end (piece.Value from e) = omega arith
 start_to_end (piece.Text from bytes) = omega arith
 
 module _ (program : TypedProgram) (scalar : Shape) (offset : ℕ) where
-  -- what the scalar holds by pieces
+  -- the initial value of the scalar, by these pieces
   abbrev holds : List Piece → Cell
   holds ps = initial_cell program scalar (map piece_of ps) offset
 
@@ -46,12 +46,12 @@ module _ (program : TypedProgram) (scalar : Shape) (offset : ℕ) where
   past_one (piece.Value from e) ps past = grind (arith, nat_tests)
   past_one (piece.Text from bytes) ps past = grind (arith, nat_tests)
 
-  -- one that ends before it
+  -- a piece that ends at the offset or before it
   ended_one : (p : Piece) (ps : List Piece) → end_of p ≤ offset → holds (p ∷ ps) ≡ holds ps
   ended_one (piece.Value from e) ps ended = grind (arith, nat_tests)
   ended_one (piece.Text from bytes) ps ended = grind (arith, nat_tests)
 
-  -- no more of the others than nothing counts
+  -- if the others have nothing for the scalar, only the first piece counts
   alone : (p : Piece) (ps : List Piece) → holds ps ≡ zero_of scalar → holds (p ∷ []) ≡ holds (p ∷ ps)
   alone (piece.Value from e) ps none = grind (arith, none)
   alone (piece.Text from bytes) ps none = grind (arith, none)
@@ -61,7 +61,7 @@ module _ (program : TypedProgram) (scalar : Shape) (offset : ℕ) where
   all_past [] past = refl
   all_past (p ∷ ps) past = past_one p ps (past 0 p (omega arith)) ∙ all_past ps (λ k d below. past (suc k) d (omega (arith, below)))
 
-  -- of pieces that rise, the last one that begins at the offset or before it
+  -- the last of ascending pieces that begins at the offset or before it
   pub nearest_alone : (from last : ℕ) (ps : List Piece) → IsTrue (ascends_from from ps) → last < length ps
       → ((k : ℕ) (d : Piece) → k ≤ last → start_of (get_or ps k d) ≤ offset)
       → ((k : ℕ) (d : Piece) → last < k → k < length ps → offset < start_of (get_or ps k d)) → holds (take 1 (drop last ps)) ≡ holds ps
@@ -77,7 +77,7 @@ module _ (program : TypedProgram) (scalar : Shape) (offset : ℕ) where
       (λ k d after below. past (suc k) d (omega (arith, after)) (omega (arith, below)))
       ∙ sym (ended_one p (q ∷ ps) (omega (arith, next, there)))
 
--- where each piece begins, no sooner than the first offset
+-- each ascending piece begins at the first offset or after it
 starts_from : (from : ℕ) (ps : List Piece) → IsTrue (ascends_from from ps) → (k : ℕ) (d : Piece) → k < length ps → from ≤ start_of (get_or ps k d)
 starts_from from [] rises k d below = absurd (omega (arith, below))
 starts_from from (p ∷ ps) rises zero d below = (first_rises from p ps rises).0
@@ -86,7 +86,7 @@ starts_from from (p ∷ ps) rises (suc k) d below =
     let after : end_of p ≤ start_of (get_or ps k d) = starts_from (end_of p) ps both.1 k d (omega (arith, below)) in
     omega (arith, both.0, start_to_end p, after)
 
--- pieces that rise begin in their order
+-- ascending pieces begin in their order
 pub starts_rise : (from : ℕ) (ps : List Piece) → IsTrue (ascends_from from ps) → (i j : ℕ) (d : Piece) → i ≤ j → j < length ps
     → start_of (get_or ps i d) ≤ start_of (get_or ps j d)
 starts_rise from [] rises i j d up below = absurd (omega (arith, below))

@@ -1,4 +1,4 @@
--- Statements that contain lists of others, and arguments: for every function that traverses statements, or counts arguments.
+-- Statements with lists of statements, and arguments: for all functions that process statements, or count arguments.
 use Rattle.std.proofs.Common.{◌≡◌, ℕ, ◌+◌, Option, List, [], ◌∷◌, length, Vec, Global, refl, ap, ◌∙◌, arith}
 use Rattle.cs_ast.specs.declared.typed.expression.Expr.{Expr}
 use Rattle.cs_ast.specs.declared.typed.statement.Case.{Case}
@@ -21,7 +21,7 @@ module _ (s : Stmt) where
       → statement s ≡ Switch s.place (typed value) cases.items (statement_list items.items)
   switch_is value cases items is = ap (statement_at s.place) is ∙ statement_at-Switch s.place value cases items
 
--- as many as there are
+-- the count of a list is its length
 pub count_all-list : (es : List Expr) → count_all (typed_list es) ≡ length es
 count_all-list [] = refl
 count_all-list (e ∷ es) = ap (λ (n : ℕ). n + 1) (count_all-list es) ∙ omega arith

@@ -1,4 +1,4 @@
--- The static objects at the beginning of runs: for the contract of `Prepared::new`.
+-- The static objects at the beginning of a run: for the contract of `Prepared::new`.
 use Rattle.std.proofs.Common.{◌≡◌, ℕ, zero, suc, List, [], ◌∷◌, map, Some, refl, ap}
 use Rattle.std.specs.Prelude.{option_map, slice_get}
 use mathlib.Core.Path.{fun_ext}
@@ -12,7 +12,7 @@ use Rattle.cs_objects.specs.declared.prepared.Prepared.{Prepared}
 use Rattle.cs_objects.specs.BlockView.{block_of, block_at}
 use Rattle.cs_objects.specs.Prepared.{statics_of}
 
--- what stands in a row that is made of a list
+-- the elements of a row made from a list
 row_of : {A : Type 0} (f : A → meaning.Block) (row : List Block) (from : List A) → map block_of row ≡ map f from
     → (n : ℕ) → block_at row n ≡ option_map f (slice_get from n)
 row_of f [] [] e n = refl

@@ -1,4 +1,4 @@
--- Consecutive scalars that were written: for the contract of `written_cells`.
+-- Scalars that were written, one after another: for the contract of `written_cells`.
 use Rattle.std.proofs.Common.{◌≡◌, ℕ, ◌<◌, length, get_or, ◌+◌, List, [], ◌∷◌, ◌++◌, map, take, Option, Some}
 use Rattle.std.proofs.Common.{sym, ap, ◌∙◌}
 use Rattle.std.specs.Prelude.{option_map}
@@ -12,11 +12,11 @@ use Rattle.cs_objects.specs.declared.blocks.Block.{Block as Stored}
 use Rattle.cs_objects.specs.BlockView.{written_at}
 use Rattle.cs_objects.proofs.Pushing.{map-push}
 
--- what was written of an object at offsets that are counted from another
+-- what was written in an object at offsets that are relative to another one
 abbrev pub written_from : Stored → ℕ → List ℕ → List (Option Cell)
 written_from block from offsets = map (λ (offset : ℕ). written_at block (from + offset)) offsets
 
--- one more was written
+-- one more scalar was written
 pub one_more_found : (block : Stored) (from : ℕ) (offsets : List ℕ) (i at : ℕ) (held copy : Held) (cells more : List Held) → i < length offsets
     → from + get_or offsets i 0 ≡ at → get nat_cmp block.written at ≡ Some held → cell_of copy ≡ cell_of held → more ≡ cells ++ copy ∷ []
     → written_from block from (take i offsets) ≡ map (λ (cell : Held). Some (cell_of cell)) cells

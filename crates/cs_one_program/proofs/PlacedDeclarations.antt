@@ -34,7 +34,7 @@ use Rattle.cs_one_program.specs.SameDeclarations.{SameBounds, SameDeclarator, Sa
 use Rattle.cs_one_program.specs.SameDeclarations.{SameSpecs, SameMembers, SameBefore, SameParameter, SameParameters, SameFunction}
 use Rattle.cs_one_program.proofs.PlacedExpressions.{stands_same, expression_same}
 
--- ---- lists and what may be absent
+-- ---- lists and optional parts
 
 abbrev pub ListFits : {B : Type 0} → List B → List B → Type 0
 ListFits [] [] = Unit {0}
@@ -60,7 +60,7 @@ option_fits_itself (Some b) = refl
 pub option_fits : {B : Type 0} {b b' : Option B} → b ≡ b' → OptionFits b b'
 option_fits {b = b} e = subst (OptionFits b) e (option_fits_itself b)
 
--- what has its places in the same tokens, and is seen the same, is the same
+-- values with the positions of the same tokens and equal views are the same
 abbrev pub Alike : {A B : Type 0} → (A → List Token → Type 0) → (A → B) → (A → A → Type 0) → Type 0
 Alike {A = A} Has see Same = (a a' : A) (tokens tokens' : List Token) → tokens ≡ tokens' → Has a tokens → Has a' tokens' → see a ≡ see a'
     → Same a a'
@@ -128,7 +128,7 @@ constant_alike e e' tokens tokens' t h h' w = record {
   value = some_alike e.value e'.value _ _ (ap (drop 2) t) h.1 h'.1 (ap (λ (c : Constant). c.value) w);
 }
 
--- ---- what objects hold at first
+-- ---- initializers
 
 abbrev InitialFits : Initial → Initial → Type 0
 InitialFits (tree.Single e) (tree.Single e') = e ≡ e'
@@ -195,7 +195,7 @@ pub objects_alike : (ds ds' : List RawInit) (tokens tokens' : List Token) → to
 objects_alike ds ds' tokens tokens' t h h' w =
     in_row IsDeclaredPlaced declared declared_text SameInit init_alike ds ds' tokens tokens' t h h' (list_fits w)
 
--- ---- what stands before declarators
+-- ---- specifiers
 
 abbrev SpecFits : Spec → Spec → Type 0
 SpecFits tree.Static tree.Static = Unit {0}

@@ -17,7 +17,7 @@ use Rattle.cs_grammar.specs.Places.{StandsAt, following, after_words, before_tag
 use Rattle.cs_one_program.specs.SameExpressions as same
 use Rattle.cs_one_program.specs.SameExpressions.{SameType, SameKind, SameRow, SameExpr}
 
--- both stand at the first of these tokens
+-- both positions are that of the first of these tokens
 pub stands_same : {at at' : Place} {tokens tokens' : List Token} → tokens ≡ tokens' → StandsAt at tokens → StandsAt at' tokens' → at ≡ at'
 stands_same {at' = at'} {tokens = tokens} e h h' = alike _ tokens h (subst (StandsAt at') (sym e) h')
   where
@@ -25,7 +25,7 @@ stands_same {at' = at'} {tokens = tokens} e h h' = alike _ tokens h (subst (Stan
     alike at [] h h' = absurd h
     alike at (token ∷ tokens) h h' = h ∙ sym h'
 
--- what equal parts have
+-- the equations between the parts of equal trees
 abbrev Fits : Written → Written → Type 0
 Fits (tree.Named name) (tree.Named name') = name ≡ name'
 Fits (tree.Numeral constant) (tree.Numeral constant') = constant ≡ constant'
@@ -112,7 +112,7 @@ words_past : (ty ty' : WrittenType) {tokens tokens' : List Token} → ty.words.i
     → tokens ≡ tokens' → after_words ty tokens ≡ after_words ty' tokens'
 words_past ty ty' words pointers t = λ i. drop (length (words_text (words i) (pointers_text (pointers i) []))) (t i)
 
--- a name at its place
+-- a name and its position
 name_same : (name name' : RawName) → name.place ≡ name'.place → name.name ≡ name'.name → name ≡ name'
 name_same name name' at is = λ i. record { place = at i; name = is i }
 

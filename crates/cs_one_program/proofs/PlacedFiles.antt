@@ -38,7 +38,7 @@ use Rattle.cs_one_program.proofs.PlacedExpressions.{stands_same, expression_same
 use Rattle.cs_one_program.proofs.PlacedDeclarations.{list_fits, Alike, side_by_side, some_alike, declarators_alike, objects_alike, specs_alike}
 use Rattle.cs_one_program.proofs.PlacedDeclarations.{head_alike}
 
--- ---- what equal parts have
+-- ---- equations between the parts of equal trees
 
 abbrev FirstFits : First → First → Type 0
 FirstFits tree.NoFirst tree.NoFirst = Unit {0}
@@ -263,7 +263,7 @@ mutual
       (switch_items_alike row row' _ _ (λ i. past (switch_item_text (w.0 i)) (t i)) h.1 h'.1 (switch_items_fit w.1))
   switch_items_alike _ _ tokens tokens' t h h' w = absurd w
 
--- ---- parts of a file
+-- ---- external declarations
 
 item_list_alike : (is is' : List RawItem) (tokens tokens' : List Token) → tokens ≡ tokens'
     → AreSideBySide IsItemPlaced (λ i. item_text (item i)) is tokens
@@ -319,7 +319,7 @@ external_alike : Alike IsExternalPlaced external SameExternal
 external_alike e e' tokens tokens' t h h' w =
     record { at = stands_same t h.0 h'.0; is = inside_alike e.kind e'.kind _ _ t h.1 h'.1 (external_fits w) }
 
--- two files with the same parts, that have the places of the same tokens
+-- two files with the same parts and the positions of the same tokens
 pub file_alike : (file other : List RawExternal) (tokens : List Token) → AreFilePlaced file tokens → AreFilePlaced other tokens
     → parts_of file ≡ parts_of other → SameTree file other
 file_alike file other tokens h h' w =

@@ -1,4 +1,4 @@
--- The types of specifiers, typedefs and parameters that have the same parts at the same positions are typed alike.
+-- Specifiers, typedefs and parameters with the same parts at the same positions are typed alike.
 use Rattle.std.proofs.Common.{◌≡◌, ℕ, ℤ, pos, not, ◌&&◌, ◌||◌, if◌then◌else◌, List, [], ◌∷◌, ◌++◌, length, Bool, Option, Some}
 use Rattle.std.proofs.Common.{None}
 use Rattle.std.proofs.Common.{refl, ap, ◌∙◌}
@@ -108,7 +108,7 @@ mutual
       ∙ row_same k tag (first_name list'.items) (plain_row row') specs in λ i.
       lift (λ (read : Body). members_read_same read.known read.laying others i) (lift (group_same before declarators i) (ty i))
 
--- ---- what stands before declarators
+-- ---- specifiers
 
 plain_words_same : {ws ws' : List SpecWord} → Pairwise SameSpec ws ws' → plain_words ws ≡ plain_words ws'
 plain_words_same none = refl

@@ -31,7 +31,7 @@ use Rattle.cs_scopes.specs.Faults.{least_code}
 use Rattle.cs_one_program.specs.SameExpressions.{SameType, SameKind, SameRow, End, More}
 use Rattle.cs_one_program.specs.SameExpressions as same
 
--- the type that words name
+-- the type that specifiers name
 based_same : (declarations : List Declaration) (tags : List Tag) (at : Place) (ty other : WrittenType) → SameType ty other
     → (whole : Option TypeWord) → based declarations tags at ty whole ≡ based declarations tags at other whole
 unfolding based

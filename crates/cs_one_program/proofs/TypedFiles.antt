@@ -1,4 +1,4 @@
--- Files with the same parts at the same positions are one typed program, or are refused at one position with one code: for
+-- Files with the same parts at the same positions are one typed program, or have the same first type error: for
 -- `typing_sees_parts_and_places`.
 use Rattle.std.proofs.Common.{◌≡◌, ℕ, false, ◌||◌, if◌then◌else◌, List, [], ◌++◌, length, Bool, Option, Some, None, option_to_list}
 use Rattle.std.proofs.Common.{refl, ap, ◌∙◌}

@@ -132,7 +132,7 @@ mutual
   items_read_same c literals (ty ∷ types) (MoreItems first others) = λ i.
       lift (λ (r : Reading). lift (one_more r.0) (items_read_same c r.1 types others i)) (initial_read_same c literals ty first i)
 
--- what the `=` says of items
+-- the codes at the `=` for items
 mutual
   item_fault_same : (c : Context) (literals : Literals) (storage : Storage) (at : Place) (ty : Shape) {v v' : RawInitial} → SameInitial v v'
       → item_fault c literals storage at ty v ≡ item_fault c literals storage at ty v'
@@ -158,7 +158,7 @@ whole_fault_same : (c : Context) (literals : Literals) (storage : Storage) (at :
 whole_fault_same c literals storage at ty (Value e) = ap (reading_fault (initial_judged c storage at ty)) (read_same c literals ty e)
 whole_fault_same c literals storage at ty (Listed row) = items_fault_same c literals storage at (types_or_none (part_types c.table.list ty)) row
 
--- how much they store
+-- how many scalars they store
 value_stored_same : (table : List StructType) (ty : Shape) {k k' : RawExprKind} → SameKind k k' → value_stored table ty k ≡ value_stored table ty k'
 value_stored_same table (array element count) h = ap (λ bytes. bytes_stored count (length bytes)) (text_same h)
 value_stored_same table void h = refl
@@ -232,7 +232,7 @@ pub bounded_same : (c : Context) {at at' : Place} {base base' : Shape} {bounds b
 bounded_same c place ty none = ap Fine ty
 bounded_same c place ty (more h all) = λ i. complete_at c.table.list (place i) (ty i)
 
--- the type that a declarator gives its name
+-- the type that a declarator specifies for its name
 pub declarator_same : (c : Context) (base : Shape) {count count' : Option ℕ} {d d' : RawDeclarator} → count ≡ count' → SameDeclarator d d'
     → declarator_type c base count d ≡ declarator_type c base count' d'
 declarator_same c base elements h =

@@ -1,4 +1,4 @@
--- A lexed file's tree has constants, positions and a size that its text allows: for `lexed_files_have_trees`.
+-- The tree of a lexed file has the constants, positions and size that its text allows: for `lexed_files_have_trees`.
 use Rattle.std.proofs.Common.{◌≤◌, length, ap, arith}
 use Rattle.std.specs.List.{sum_by}
 use Rattle.cs_grammar.specs.FileText.{file_text}

@@ -9,7 +9,7 @@ use Rattle.cs_grammar.specs.FileText.{file_text}
 use Rattle.cs_expr_parser.specs.Positions.{kinds}
 use Rattle.cs_decl_parser.specs.Files.{parts_of, IsTheFile}
 
--- where none of the tokens is too wide, none of the tree that they are is
+-- if no token has a constant that is too wide, neither does the tree of the tokens
 pub tree_held : (tokens : List Token) (tree : List RawExternal) → AreHeld tokens → IsTheFile tokens (parts_of tree)
     → All IsHeldToken (file_text (parts_of tree))
 tree_held tokens tree held is =

@@ -43,7 +43,7 @@ use Rattle.cs_well_formed.specs.WrittenPlaces.{WrittenAmong, RowAmong, Expressio
 use Rattle.cs_well_formed.specs.WrittenPlaces.{SentenceAmong, ItemAmong, ItemsAmong, SwitchItemAmong, SwitchItemsAmong, BodyAmong, ExternalKindAmong}
 use Rattle.cs_well_formed.specs.WrittenPlaces.{ExternalAmong}
 
--- all of these tokens have places among these
+-- all of these tokens have positions of the set
 pub record TokensAmong (Is : Place → Type 0) (tokens : List Token) : Type 0 where
   pub each : All (λ (t : Token). Is t.place) tokens
 
@@ -52,7 +52,7 @@ module _ (Is : Place → Type 0) where
   among at [] all h = absurd h
   among at (t ∷ ts) all h = subst Is (sym h) (All-head (λ (t : Token). Is t.place) t ts all.each)
 
-  -- tokens after so many of them, after an expression, after a text
+  -- the tokens after the first n, after an expression, after a text
   later : {tokens : List Token} (n : ℕ) → TokensAmong Is tokens → TokensAmong Is (drop n tokens)
   later {tokens = tokens} n all = record { each = All-drop (λ (t : Token). Is t.place) n tokens all.each }
 
@@ -62,18 +62,18 @@ module _ (Is : Place → Type 0) where
   past_text : {tokens : List Token} (spell : Kinds → Kinds) → TokensAmong Is tokens → TokensAmong Is (past spell tokens)
   past_text spell all = later (length (spell [])) all
 
-  -- what has its places in tokens that have theirs among these has this
+  -- what has the positions of such tokens has this property
   abbrev Carries : {A : Type 0} → (A → List Token → Type 0) → (A → Type 0) → Type 0
   Carries {A = A} Has P = (a : A) (tokens : List Token) → TokensAmong Is tokens → Has a tokens → P a
 
-  -- each of a list with a token after it
+  -- each element of a list, with a token after each
   in_row : {A : Type 0} (Has : A → List Token → Type 0) (spell : A → Kinds → Kinds) (P : A → Type 0) → Carries Has P
       → (list : List A) (tokens : List Token) → TokensAmong Is tokens → AreInRow Has spell list tokens → AllByRecursion P list
   in_row Has spell P each [] tokens all h = tt
   in_row Has spell P each (a ∷ others) tokens all h =
       (each a tokens all h.0, in_row Has spell P each others (drop 1 (past (spell a) tokens)) (later 1 (past_text (spell a) all)) h.1)
 
-  -- each of a list
+  -- each element of a list
   side_by_side : {A : Type 0} (Has : A → List Token → Type 0) (spell : A → Kinds → Kinds) (P : A → Type 0) → Carries Has P
       → (list : List A) (tokens : List Token) → TokensAmong Is tokens → AreSideBySide Has spell list tokens → AllByRecursion P list
   side_by_side Has spell P each [] tokens all h = tt
@@ -82,7 +82,7 @@ module _ (Is : Place → Type 0) where
 
   -- ---- expressions
 
-  -- tokens after the words and pointers of a type, and after its bounds
+  -- the tokens after the specifiers and pointers of a type, and after its bounds
   past_words : {tokens : List Token} (ty : WrittenType) → TokensAmong Is tokens → TokensAmong Is (after_words ty tokens)
   past_words ty all = later (length (words_text ty.words.items (pointers_text ty.pointers.items []))) all
 
@@ -255,7 +255,7 @@ module _ (Is : Place → Type 0) where
     switch_items-among (statements.more_of-RawSwitchItem first others) tokens all h =
         (switch_item-among first tokens all h.0, switch_items-among others _ (past_text (switch_item_text (switch_item first)) all) h.1)
 
-  -- ---- parts of a file
+  -- ---- external declarations
 
   body-among : (body : RawBody) (tokens : List Token) → TokensAmong Is tokens → IsBodyPlaced body tokens → BodyAmong Is body
   body-among body tokens all h = record {
@@ -280,7 +280,7 @@ module _ (Is : Place → Type 0) where
   external-among : (e : RawExternal) (tokens : List Token) → TokensAmong Is tokens → IsExternalPlaced e tokens → ExternalAmong Is e
   external-among e tokens all h = inside-among e.kind tokens all h.1
 
-  -- the parts of a file
+  -- the external declarations of a file
   pub file-among : (file : List RawExternal) (tokens : List Token) → TokensAmong Is tokens → AreFilePlaced file tokens → All (ExternalAmong Is) file
   file-among file tokens all h =
       All-from_recursion (ExternalAmong Is) file

@@ -7,7 +7,7 @@ use Rattle.cs_lexer.specs.Extent.{token_extent}
 use Rattle.cs_expr_parser.specs.Positions.{kinds}
 use Rattle.cs_well_formed.specs.Sizes.{text_size}
 
--- the size of a text is what its tokens have together
+-- the size of a text is the sum of the sizes of its tokens
 pub size_is_extent : (tokens : List Token) → text_size (kinds tokens) ≡ sum_by token_extent tokens
 size_is_extent [] = refl
 size_is_extent (t ∷ ts) = omega (arith, size_is_extent ts, sum_by-cons token_extent t ts)

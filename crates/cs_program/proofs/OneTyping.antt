@@ -11,14 +11,14 @@ use Rattle.cs_typing.specs.Programs.{typed}
 use Rattle.cs_one_program.proofs.Laws.{files_have_one_program}
 use Rattle.cs_program.specs.Trees.{Parses, typed_tree}
 
--- a model, files and tokens by other names
+-- the same model, files and tokens in another form
 pub same_typing : (lexed : Lexed) (model model' : DataModel) (files : List (List ℕ)) (tokens : List Token) (tree : List RawExternal) → model' ≡ model
     → files ≡ lexed.files.items → tokens ≡ lexed.list.items → typed model' files tokens tree ≡ typed_tree model lexed tree
 same_typing lexed model model' files tokens tree same_model same_files same_tokens =
     ap (λ m. typed m files tokens tree) same_model ∙ ap (λ fs. typed model fs tokens tree) same_files
     ∙ ap (λ ts. typed model lexed.files.items ts tree) same_tokens
 
--- a tree of one list of tokens is one of the other, which is the same
+-- a tree of one list of tokens is a tree of an equal list
 pub parses_again : (file : List ℕ) (lexed other : Lexed) (one two : List RawExternal) → Parses file lexed one → Parses file other two
     → Parses file lexed two
 parses_again file lexed other one two h i =
@@ -37,7 +37,7 @@ typed_again model file lexed other one two h i =
     let same = lexed_once file other lexed i.has_tokens h.has_tokens in
     ap (λ files. typed model files other.list.items two) same.files ∙ ap (λ tokens. typed model lexed.files.items tokens two) same.list
 
--- whichever tree of the file is taken, its typing is one
+-- all trees of a file have the same typing
 pub one_typing : (model : DataModel) (file : List ℕ) (lexed other : Lexed) (one two : List RawExternal) → Parses file lexed one → Parses file other two
     → typed_tree model other two ≡ typed_tree model lexed one
 one_typing model file lexed other one two h i =

@@ -23,7 +23,7 @@ use Rattle.cs_objects.proofs.StatementForms.{count_all-list}
 use Rattle.cs_reference.specs.Acting.{size_of_target}
 
 module _ (program : TypedProgram) (budgets : RunBudgets) (e : Expr) (m : State) where
-  -- a call, with so many arguments
+  -- a call, with this many arguments
   pub call_act : (function : ℕ) (arguments : Vec Expr Global) (count : ℕ) → e.kind.value ≡ kind.Call function arguments
       → count ≡ length arguments.items → act program budgets (typed e) m ≡ call program budgets e.place function count m
   call_act function arguments count is counted =

@@ -10,13 +10,13 @@ use Rattle.cs_ast.specs.TypedProgram.{typed_program}
 use Rattle.cs_meaning.specs.Machine.{NOWHERE, routine_of, body_of}
 use Rattle.cs_frames.proofs.Calling.{routine_is, routine_none}
 
--- one without a body
+-- a function without a body
 pub bodiless : (program : Program) (number : ℕ) (f : Function) → slice_get program.functions.items number ≡ Some f → f.body ≡ None
     → body_of (routine_of (typed_program program) number) ≡ Block f.place Empty
 bodiless program number f is none =
     ap body_of (routine_is program number f is) ∙ ap (λ (body : Option Stmt). unwrap_or (option_map statement body) (Block f.place Empty)) none
 
--- one that isn't there
+-- a function that doesn't exist
 pub missing : (program : Program) (number : ℕ) → slice_get program.functions.items number ≡ None
     → body_of (routine_of (typed_program program) number) ≡ Block NOWHERE Empty
 missing program number is = ap body_of (routine_none program number is)

@@ -1,4 +1,4 @@
--- How many steps a run has left: for the loop of `run`.
+-- How many steps of a run remain: for the loop of `run`.
 use Rattle.std.proofs.Common.{◌≡◌, ℕ, suc, ◌<◌, refl, ap, arith}
 use Rattle.cs_ast.specs.TypedProgram.{TypedProgram}
 use Rattle.cs_events.specs.declared.outcome.Outcome.{Outcome}
@@ -13,12 +13,12 @@ use Rattle.cs_meaning.proofs.Weights.{turns, weight}
 use Rattle.cs_meaning.proofs.Lessening.{lessens}
 
 module _ {State : Type 0} (go : State → Act State) (setting : Setting) where
-  -- how many steps a way has
+  -- the number of steps of a path
   abbrev steps_in : {m last : State} {log end : Log} → Leads go setting m log last end → ℕ
   steps_in (stays e f) = 0
   steps_in (goes s way) = suc (steps_in way)
 
-  -- all ways from a state to an end of the run are equally long
+  -- all paths from a state to an end of the run have the same length
   equally_long : {m m' last last' : State} {log log' before before' end end' : Log} {outcome outcome' : Outcome} → m ≡ m' → log ≡ log'
       → (one : Leads go setting m log last before) (other : Leads go setting m' log' last' before')
       → perform setting before (go last) ≡ Finishes outcome end → perform setting before' (go last') ≡ Finishes outcome' end'
@@ -36,13 +36,13 @@ module _ {State : Type 0} (go : State → Act State) (setting : Setting) where
       → (here : Ending go setting m log) (there : Ending go setting next later) → steps_in here.ended.leads ≡ suc (steps_in there.ended.leads)
   one_less s here there = equally_long refl refl here.ended.leads (goes s there.ended.leads) here.ended.finishes there.ended.finishes
 
--- how many steps the run of a program has left in a state
+-- how many steps of a program's run remain in a state
 pub steps_left : TypedProgram → RunBudgets → Setting → machine.State → Log → ℕ
 steps_left program budgets setting m log =
     steps_in (step program budgets) setting
     (every_run_ends (step program budgets) setting (turns budgets.visits) weight (lessens program budgets) m log).ended.leads
 
--- a step leaves fewer
+-- after a step fewer steps remain
 pub fewer_left : (program : TypedProgram) (budgets : RunBudgets) (setting : Setting) (m next : machine.State) (log later : Log)
     → perform setting log (step program budgets m) ≡ Continues next later
     → steps_left program budgets setting next later < steps_left program budgets setting m log

@@ -20,7 +20,7 @@ use Rattle.cs_positions.specs.Points.{point_of}
 abbrev pub at_block : ℕ → Position
 at_block block = record { block = block; done = 0 }
 
--- the first state of the reference machine, in the frame of an entry's graph instead
+-- the first state of the reference machine, with the frame of an entry's graph
 pub started_is : (code : Code) (program : TypedProgram) (inputs : Path
     → ℤ) (entry : ℕ) (routine : Routine) (block : ℕ) (machine : Machine) (frame : f.Frame)
     → block ≡ (unwrap_or (flow_of (view.code code) entry) no_flow).entry

@@ -1,4 +1,4 @@
--- A run in progress from the beginning of a course, and how many steps it has left: for the loop of `follow`.
+-- A run between the beginning of a course and its end, and how many steps remain: for the loop of `follow`.
 use Rattle.std.proofs.Common.{◌≡◌, ℕ, ◌≤◌, ◌<◌, refl, sym, ap, ◌∙◌, subst, arith}
 use Rattle.cs_ast.specs.TypedProgram.{typed_program}
 use Rattle.cs_events.specs.declared.outcome.Outcome.{Outcome}
@@ -23,7 +23,7 @@ use Rattle.cs_replay.specs.RunLengths.{HasLeft}
 use Rattle.cs_replay.proofs.Lengths.{counted, counts_left, one_less}
 
 module _ (course : Course) where
-  -- a step of its run, what the run goes by, and its first state
+  -- the step function of its run, the setting of the run, and its first state
   abbrev pub step_of : CodeState → Act CodeState
   step_of = code_step (view.code course.code.now) (typed_program course.setting.now.program.now) course.setting.now.budgets
 
@@ -33,15 +33,15 @@ module _ (course : Course) where
   abbrev pub first_of : CodeState
   first_of = code_start (view.code course.code.now) (typed_program course.setting.now.program.now) course.entry (run_of course.setting.now)
 
-  -- what the next step of a run comes to
+  -- the result of the next step of a run
   abbrev pub next_of : Replayer → Performed CodeState
   next_of run = perform goes_by (log_of run.runner.log) (step_of (state_in run))
 
-  -- how many steps a run has left
+  -- how many steps of a run remain
   abbrev pub steps_left : Replayer → ℕ
   steps_left run = counted step_of goes_by course.ends.0 (next_of run)
 
-  -- a run has come from the beginning, and has some steps left
+  -- a run that has come from the beginning, and has some steps left
   pub record OnWay (run : Replayer) : Type 0 where
     pub setting : run.runner.setting.now ≡ course.setting.now
     pub code : run.code.now ≡ course.code.now
@@ -62,7 +62,7 @@ module _ (course : Course) where
         (subst (λ (l : Log). HasLeft step_of goes_by course.ends.0 (perform goes_by l (step_of first_of))) (sym log) course.ends.1);
   }
 
-  -- it is ready for a step where the course's setting is ready and its program has its graphs
+  -- it is ready for a step, if the course's setting is ready and its program has its graphs
   pub ready : (run : Replayer) → OnWay run → settings.IsReady course.setting.now
       → HasGraphs (view.code course.code.now) (typed_program course.setting.now.program.now) → IsReady run
   ready run way prepared graphs = record {
@@ -71,7 +71,7 @@ module _ (course : Course) where
         (subst (λ (s : Setting). HasGraphs (view.code course.code.now) (typed_program s.program.now)) (sym way.setting) graphs);
   }
 
-  -- what the run's step comes to is what that of the course does
+  -- the result of the run's step is that of the course's step
   comes_to : (run : Replayer) (done : Performed CodeState) → OnWay run
       → perform (setting_of run.runner.setting.now) (log_of run.runner.log) (code_step (code_of run) (program_of run) (budgets_of run) (state_in run))
       ≡ done → next_of run ≡ done
@@ -101,7 +101,7 @@ module _ (course : Course) where
           left = less.left;
         }
 
-    -- with a step less
+    -- with one step less
     pub fewer_left : steps_left new < steps_left run
     fewer_left =
         let e = comes_to run (Continues (state_in new) (log_of new.runner.log)) way leads in
@@ -113,7 +113,7 @@ module _ (course : Course) where
         let then = counts_left step_of goes_by less.fewer course.ends.0 (next_of new) within less.left in
         omega arith
 
-  -- a run that finishes has the end that the code's run has
+  -- a run that finishes has the end of the code's run
   pub gives : (run : Replayer) (outcome : Outcome) (end : Log) → OnWay run
       → perform (setting_of run.runner.setting.now) (log_of run.runner.log) (code_step (code_of run) (program_of run) (budgets_of run) (state_in run))
       ≡ Finishes outcome end

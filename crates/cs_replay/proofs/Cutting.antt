@@ -1,11 +1,11 @@
--- Temporaries below a number, stored with the newest last: for the contract of `cut`.
+-- Temporaries below a number, which are stored with the newest last: for the contract of `cut`.
 use Rattle.std.proofs.Common.{◌≡◌, ℕ, ◌-◌, ◌≤◌, nat_le, Bool, true, false, List, map, take, drop, reverse, length, sym, ap, ◌∙◌, refl}
 use Rattle.std.proofs.Common.{arith}
 use Rattle.std.proofs.lemmas.Bool.Decides.{nat_tests}
 use Rattle.std.proofs.lemmas.List.{length-map, length-reverse, take_all}
 use Rattle.cs_frames.proofs.Stacks.{older_of}
 
--- the first elements are those that are left without as many as there are more
+-- without the elements after the first n, the first n remain
 first_are : {X : Type 0} (xs : List X) (n : ℕ) → take (length xs - (length xs - n)) xs ≡ take n xs
 first_are xs n = at (nat_le n (length xs)) refl
   where
@@ -18,7 +18,7 @@ first_are xs n = at (nat_le n (length xs)) refl
         let past : length xs ≤ n = grind (arith, nat_tests) in
         take_all (length xs - (length xs - n)) xs (omega arith) ∙ sym (take_all n xs past)
 
--- those below a number
+-- the temporaries below a number, with the newest first
 pub below_are : {X Y : Type 0} (seen : X → Y) (xs : List X) (n : ℕ)
     → reverse (map seen (take n xs)) ≡ drop (length (reverse (map seen xs)) - n) (reverse (map seen xs))
 below_are seen xs n =

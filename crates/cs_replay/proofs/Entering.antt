@@ -1,4 +1,4 @@
--- Calls, by the parts of the function that they depend on: for the contracts of `call` and `enter`.
+-- Calls, by what is known about the function: for the contracts of `call` and `enter`.
 use Rattle.std.proofs.Common.{◌≡◌, ℕ, ◌+◌, ◌∷◌, List, Option, Some, None, unwrap_or, refl, sym, ap, ◌∙◌}
 use Rattle.std.specs.Prelude.{option_map, slice_get}
 use Rattle.cs_ast.specs.declared.place.Place.{Place}
@@ -15,7 +15,7 @@ use Rattle.cs_replay.specs.CodeStates.{at_point, begun}
 use Rattle.cs_replay.specs.FrameChanges.{inside_with}
 use Rattle.cs_frames.proofs.NewLocals.{locals_are}
 
--- the run in a new frame, which is as it should be
+-- the run in a new frame
 pub entered_is : (code : Code) (program : TypedProgram) (function : ℕ) (flow : Flow) (routine : Routine) (arguments : List Operand) (frame : Frame)
     (locals : ℕ → Option Block) (m : CodeState) → frame ≡ begun function m.frames flow.counted_points → flow_of code function ≡ Some flow
     → ((n : ℕ) → locals n ≡ option_map (local_block program (slice_get arguments n)) (slice_get routine.variables n))
@@ -43,7 +43,7 @@ module _ (program : TypedProgram) (budgets : RunBudgets) (at : Place) (function 
       ∙ (ap (λ (l : List Operand). enter_as program budgets (code_frame function flow) at function routine l (pop_many count m)) (sym were)
       ∙ ap (λ (n : CodeState). enter_as program budgets (code_frame function flow) at function routine arguments n) (sym is))
 
--- a function without a graph has no body, where each that has one has a graph
+-- a function without a graph has no body, if each function with a body has one
 pub no_body : (flow : Option Flow) (body : Option Statement) → is_there flow ≡ is_there body → flow ≡ None → body ≡ None
 no_body None None same none = refl
 no_body None (Some body) same none = cc

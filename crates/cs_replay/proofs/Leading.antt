@@ -1,4 +1,4 @@
--- Where acts of the code's run lead, and how they end it, derived from those of the reference machine: for the contracts of steps.
+-- Acts of the code's run continue or end the run as those of the reference machine do: for the contracts of steps.
 use Rattle.std.proofs.Common.{◌≡◌, ℕ, Bool, List, [], ◌∷◌, refl, sym, ap, ◌∙◌}
 use Rattle.cs_ast.specs.declared.place.Place.{Place}
 use Rattle.cs_events.specs.declared.event.Label.{Label}
@@ -30,7 +30,7 @@ module _ (setting : Setting) (log later : Log) where
   ends_so seen a b (stop.Outcome outcome) same ends = finishes_so seen setting log later a b outcome same ends
   ends_so seen a b stop.Memory same ends = refl
 
-  -- a label shows
+  -- a label is shown
   pub shows_so : (at : Place) (what : Label) (m : State) (t : CodeState)
       → perform setting log (shows_then at what (Goes m)) ≡ perform setting later (Goes m)
       → perform setting log (shows_then at what (Goes t)) ≡ Continues t later
@@ -42,7 +42,7 @@ module _ (setting : Setting) (log later : Log) where
       → perform setting log (shows_then at what (Goes t)) ≡ ended stop later (perform setting log (shows_then at what (Goes t)))
   no_show at what m t stop ends = ends_so (λ (s : State). t) (shows_then at what (Goes m)) (shows_then at what (Goes t)) stop (shown_reported at what m t) ends
 
-  -- a control point is met, and a label shows
+  -- a control point is visited, and a label is shown
   pub meets_so : (touch : Touch) (at : Place) (what : Label) (m : State) (t : CodeState)
       → perform setting log (Touches touch (shows_then at what (Goes m))) ≡ perform setting later (Goes m)
       → perform setting log (Touches touch (shows_then at what (Goes t))) ≡ Continues t later
@@ -59,7 +59,7 @@ module _ (setting : Setting) (log later : Log) where
       ends_so (λ (s : State). t) (Touches touch (shows_then at what (Goes m))) (Touches touch (shows_then at what (Goes t))) stop
       (touched_reported touch at what m t) ends
 
-  -- a test takes a way
+  -- a test takes a branch
   pub branches_so : (at : Place) (cell : Cell) (m : State) (ways : Bool → CodeState) (holds : Bool)
       → ((onward : Bool → Act State) → perform setting log (branch at cell onward) ≡ perform setting later (onward holds))
       → perform setting log (branch at cell (λ b. Goes (ways b))) ≡ Continues (ways holds) later
@@ -82,18 +82,18 @@ module _ (setting : Setting) (log : Log) where
   arrives act t last later end leads same same_log = leads
       ∙ (ap (λ (s : CodeState). Continues s later) (sym same) ∙ ap (λ (l : Log). Continues last l) (sym same_log))
 
--- a frame is left without a look at its temporaries
+-- the end of a frame doesn't depend on its temporaries
 pub leaves_alike : (value : Operand) (stack : List Operand) (points : ℕ → Point) (callers : List (CallFrame Point)) (m : State)
     → leave value (code_state points callers (with_stack stack m)) ≡ leave value (code_state points callers m)
 leaves_alike value stack points [] m = refl
 leaves_alike value stack points (caller ∷ callers) m = refl
 
--- the run ends at once
+-- an act that only ends the run
 pub stops_so : (setting : Setting) (log : Log) (outcome : Outcome) → perform {State = CodeState} setting log (Stops outcome) ≡ Finishes outcome log
 unfolding perform
 stops_so setting log outcome = refl
 
--- an act of the code's run that goes on at once
+-- an act of the code's run that only continues
 pub goes_so : (setting : Setting) (log : Log) (t : CodeState) → perform setting log (Goes t) ≡ Continues t log
 unfolding perform
 goes_so setting log t = refl

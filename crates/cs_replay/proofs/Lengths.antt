@@ -1,4 +1,4 @@
--- How many steps the run of placed code has, and how many it has left in progress: for the loop of `follow`.
+-- How many steps the run of placed code has, and how many remain: for the loop of `follow`.
 use Rattle.std.proofs.Common.{◌≡◌, ℕ, zero, suc, ◌≤◌, refl, sym, ap, ◌∙◌, subst, arith}
 use Rattle.cs_events.specs.Acts.{Act}
 use Rattle.cs_events.specs.Runs.{Setting, Log, Performed, Continues, Finishes, perform, Leads, stays, goes, EndsFrom}
@@ -6,13 +6,13 @@ use Rattle.cs_events.specs.declared.outcome.Outcome.{Outcome}
 use Rattle.cs_replay.specs.RunLengths.{HasLeft, HasLength}
 
 module _ {State : Type 0} (step : State → Act State) (setting : Setting) where
-  -- the steps that are left, counted up to a number
+  -- the remaining steps, counted up to a number
   abbrev pub counted : ℕ → Performed State → ℕ
   counted zero done = zero
   counted (suc most) (Finishes outcome log) = zero
   counted (suc most) (Continues next log) = suc (counted most (perform setting log (step next)))
 
-  -- so many are counted as there are, where these aren't more than that number
+  -- the count is the number of remaining steps, if it isn't greater than that number
   pub counts_left : (steps most : ℕ) (done : Performed State) → steps ≤ most → HasLeft step setting steps done → counted most done ≡ steps
   counts_left zero zero done few left = refl
   counts_left (suc steps) zero done few left = absurd (omega arith)
@@ -21,7 +21,7 @@ module _ {State : Type 0} (step : State → Act State) (setting : Setting) where
   counts_left (suc steps) (suc most) (Finishes outcome log) few left = absurd left
   counts_left (suc steps) (suc most) (Continues next log) few left = ap suc (counts_left steps most (perform setting log (step next)) (omega arith) left)
 
-  -- a run whose next act goes on has one step less after it
+  -- after an act that continues, a run has one step less
   pub record OneLess (steps : ℕ) (next : State) (later : Log) : Type 0 where
     pub fewer : ℕ
     pub one_more : steps ≡ suc fewer

@@ -1,4 +1,4 @@
--- The run of lowered code ends, as the reference machine's does: for the contract of `replay`.
+-- The run of lowered code ends as the reference machine's does: for the contract of `replay`.
 use Rattle.std.proofs.Common.{◌≡◌, ℕ, Option, Some, None, refl}
 use Rattle.cs_ast.specs.TypedTree.{Statement}
 use Rattle.cs_ast.specs.TypedProgram.{TypedProgram}
@@ -14,7 +14,7 @@ use Rattle.cs_cfg.specs.Lowered.{is_there, IsLowered}
 use Rattle.cs_replay.specs.RunLengths.{HasLength}
 use Rattle.cs_replay.proofs.Lengths.{has_length}
 
--- a body is there where a graph is
+-- a function with a graph has a body
 has_body : (flow : Option Flow) (body : Option Statement) (found : Flow) → is_there flow ≡ is_there body → flow ≡ Some found
     → (b : Statement) × (body ≡ Some b)
 has_body None body found same there = cc
@@ -30,7 +30,7 @@ module _ (code : Code) (program : TypedProgram) (entry : ℕ) (run : ProgramRun)
       let plain = run_ends program entry run budgets in
       has_length (code_step code program budgets) (setting_of program run budgets) (lowered.runs.ends entry body.0 run budgets plain.0 plain.1 body.1 plain.2)
 
-  -- and it is the reference machine's
+  -- and it ends as the reference machine's run does
   pub replays_so : (outcome : Outcome) (log : Log) → CodeGives code program entry run budgets outcome log → RunGives program entry run budgets outcome log
   replays_so outcome log gives =
       let body = has_body (flow_of code entry) (routine_of program entry).body found (lowered.graphs entry) there in

@@ -1,4 +1,4 @@
--- The result of a call, in terms of the run before an earlier call: for steps that call one function after another.
+-- The result of a call, in terms of the run before another call: for steps that continue with what they are passed.
 use Rattle.std.proofs.Common.{◌≡◌, Result, OnOk, IfErr, ◌∙◌, subst}
 use Rattle.std.specs.Prelude.{⊤}
 use Rattle.std.specs.Borrow.{Bor}
@@ -13,7 +13,7 @@ use Rattle.cs_replay.specs.declared.replayer.Replayer.{Replayer}
 use Rattle.cs_replay.specs.ReplayerView.{state_in, ended, KeepsSetting, Performs}
 use Rattle.cs_replay.proofs.Stepping.{on_ok}
 
--- where the other call left the setting, the log and the code as they were, and the act is the same
+-- a call that performs an act from a run with the same setting, log and code performs it from this one
 pub performs_as : {old moved new : Replayer} {result : Result ⊤ Stop} {act same : Act CodeState} → moved.runner.setting ≡ old.runner.setting
     → moved.runner.log ≡ old.runner.log → moved.code ≡ old.code → act ≡ same → Performs moved new result act → Performs old new result same
 performs_as {old = old} {moved = moved} {new = new} {result = result} {act = act} {same = same} setting log code is done =

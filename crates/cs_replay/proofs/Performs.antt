@@ -1,4 +1,4 @@
--- Acts that do the same, where one leads to the other's states under some view: for the contracts of all steps.
+-- Acts that do the same, where one leads to the states of the other under some mapping: for the contracts of all steps.
 use Rattle.std.proofs.Common.{◌≡◌, Bool, true, false, if◌then◌else◌, refl, ap, ◌∙◌}
 use Rattle.cs_events.specs.declared.outcome.Outcome.{Outcome}
 use Rattle.cs_events.specs.Operations.{is_true}
@@ -7,12 +7,12 @@ use Rattle.cs_events.specs.Runs.{Setting, Log, Performed, Continues, Finishes, p
 use Rattle.cs_events.specs.Runs.{allows_event, number_of, read_cell}
 use Rattle.cs_events.specs.Simulation.{Yields, both_go, both_stop, both_read, both_ask, both_allocate, both_reach, both_touch}
 
--- a state is another one seen in some way
+-- a state is the image of another one
 abbrev pub Seen : {S T : Type 0} → (S → T) → S → T → Type 0
 Seen seen m t = t ≡ seen m
 
 module _ {S T : Type 0} (seen : S → T) where
-  -- what was performed, seen in this way
+  -- the result of an act under this mapping
   abbrev pub seen_so : Performed S → Performed T
   seen_so (Continues next log) = Continues (seen next) log
   seen_so (Finishes outcome log) = Finishes outcome log
@@ -38,12 +38,12 @@ module _ {S T : Type 0} (seen : S → T) where
       if_allowed (allows_event setting log) _ _ _ log (performs setting (with_access log at object offset) same)
   performs setting log (both_touch {touch = touch} same) = performs setting (with_touch log touch) same
 
-  -- where one act leads on, so does the other
+  -- if one act continues the run, so does the other
   pub leads_so : (setting : Setting) (log later : Log) (a : Act S) (b : Act T) (m : S) → Yields (Seen seen) a b
       → perform setting log a ≡ Continues m later → perform setting log b ≡ Continues (seen m) later
   leads_so setting log later a b m same leads = performs setting log same ∙ ap seen_so leads
 
-  -- where one act ends the run, so does the other
+  -- if one act ends the run, so does the other
   pub finishes_so : (setting : Setting) (log later : Log) (a : Act S) (b : Act T) (outcome : Outcome) → Yields (Seen seen) a b
       → perform setting log a ≡ Finishes outcome later → perform setting log b ≡ Finishes outcome later
   finishes_so setting log later a b outcome same ends = performs setting log same ∙ ap seen_so ends

@@ -109,12 +109,12 @@ module _ (p : ℕ → Point) (callers : List (CallFrame Point)) where
   again_reported budgets at kind counted_point None m = both_stop
   again_reported budgets at kind counted_point (Some count) m = yields_if R (nat_lt count budgets.visits) (both_touch (both_go refl)) both_stop
 
-  -- a counted point that is reached
+  -- a counted point that is visited
   pub counted_point_reported : (code : Code) (program : TypedProgram) (budgets : RunBudgets) (at : Place) (kind : PointKind) (counted_point : ℕ) (m : State)
       → Reported (works program budgets at (Reach kind counted_point) m) (do_work code program budgets at (Reach kind counted_point) (code_state p callers m))
   counted_point_reported code program budgets at kind counted_point m = again_reported budgets at kind counted_point (slice_get m.frame.visits counted_point) m
 
-  -- an operation that is no call
+  -- an operation that isn't a call
   pub work_reported : (code : Code) (program : TypedProgram) (budgets : RunBudgets) (at : Place) (one : w.Work) (m : State)
       → ((callee count : _) → one ≡ of.Call callee count → ⊥)
       → Reported (works program budgets at (work one) m) (do_work code program budgets at (work one) (code_state p callers m))
@@ -227,7 +227,7 @@ call_reported p callers code program budgets at callee count m none outside =
     (call_outside program at callee routine (newest count m) (pop_many count (code_state p callers m)))) (sym outside)
     (outside_reported p callers program at callee routine (newest count m) left))
 
--- what shows is the same, whatever the run goes on in
+-- the event of a label is the same, whatever state follows
 pub shown_reported : (at : Place) (what : Label) (m : State) (t : CodeState)
     → Yields (Seen (λ (s : State). t)) (shows_then at what (Goes m)) (shows_then at what (Goes t))
 shown_reported at what m t = yields_shows (Seen (λ (s : State). t)) at what (both_go refl)
@@ -236,7 +236,7 @@ pub touched_reported : (touch : Touch) (at : Place) (what : Label) (m : State) (
     → Yields (Seen (λ (s : State). t)) (Touches touch (shows_then at what (Goes m))) (Touches touch (shows_then at what (Goes t)))
 touched_reported touch at what m t = both_touch (shown_reported at what m t)
 
--- a test goes on in a state for each of its ways; on the machine's stack it is left which one it was
+-- a test continues in a state for each of its branches; the machine's stack records which one it was
 abbrev pub with_truth : State → Bool → State
 with_truth m holds = push_cell (truth_cell holds) m
 

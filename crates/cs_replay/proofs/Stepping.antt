@@ -30,15 +30,15 @@ module _ (code : Code) (program : TypedProgram) (budgets : RunBudgets) (m : Code
   pub step_ends : (end : BlockEnd) → m.frame.todo ≡ record { operations = []; end = end } → code_step code program budgets m ≡ do_end code end m
   step_ends end is = subst (λ (p : Point). code_step code program budgets (to_do p m) ≡ do_end code end (to_do p m)) (sym is) refl
 
-  -- nothing comes next
+  -- nothing comes next: the frame ends
   pub step_leaves : m.frame.todo ≡ no_point → code_step code program budgets m ≡ leave (Scalar UnsetCell) m
   step_leaves is = subst (λ (p : Point). code_step code program budgets (to_do p m) ≡ leave (Scalar UnsetCell) (to_do p m)) (sym is) refl
 
--- what comes next where a run has come to
+-- the point that comes next in a run
 abbrev pub next_of : Replayer → Position → Point
 next_of run position = point_of run.code.now position run.runner.machine.frame.function
 
--- one more of the things that the block does is done
+-- one more operation of the block is done
 abbrev pub one_more : Replayer → Position
 one_more run = record run.position { done = run.position.done + 1 }
 
@@ -49,14 +49,14 @@ module _ (old moved new : Replayer) (operation : Operation) (is : moved ≡ reco
   unfolding state_of
   works_next = step_works (code_of old) (program_of old) (budgets_of old) (state_in old) operation (next_of old (one_more old)) next
 
-  -- where the operation after it leads on, so does the step
+  -- if the operation continues the run, so does the step
   pub leads_after : LeadsOn moved new (do_operation (code_of moved) (program_of moved) (budgets_of moved) operation (state_in moved))
       → LeadsOn old new (code_step (code_of old) (program_of old) (budgets_of old) (state_in old))
   leads_after leads =
       ap (λ (act : Act CodeState). perform (setting_of old.runner.setting.now) (log_of old.runner.log) act) works_next
       ∙ subst (λ (run : Replayer). LeadsOn run new (do_operation (code_of run) (program_of run) (budgets_of run) operation (state_in run))) is leads
 
-  -- where it ends the run, so does the step
+  -- if the operation ends the run, so does the step
   pub ends_after : (stop : Stop) → Ends moved new (do_operation (code_of moved) (program_of moved) (budgets_of moved) operation (state_in moved)) stop
       → Ends old new (code_step (code_of old) (program_of old) (budgets_of old) (state_in old)) stop
   ends_after stop ends =
@@ -72,7 +72,7 @@ module _ (old moved new : Replayer) (operation : Operation) (is : moved ≡ reco
   pub ready_after : IsReady old → IsReady moved
   ready_after ready = subst (λ (run : Replayer). IsReady run) (sym is) (record { setting = ready.setting; graphs = ready.graphs })
 
--- what follows from a fact follows from it where a call has gone well
+-- what follows from the result of a call that succeeds
 pub on_ok : {X E P Q : Type 0} (r : Result X E) → (P → Q) → OnOk r P → OnOk r Q
 on_ok (Ok x) h p = h p
 on_ok (Err e) h p = p

@@ -1,4 +1,4 @@
--- The result of performing each act: for every contract on acts.
+-- The result of performing each act: for every contract about acts.
 use Rattle.std.proofs.Common.{◌≡◌, ℤ, Bool, refl}
 use Rattle.std.specs.Prelude.{if◌then◌else◌}
 use Rattle.std.proofs.lemmas.Int.{to_z-of_z}
@@ -55,8 +55,8 @@ pub perform-Reaches : (s : Setting) (log : Log) (at : Place) (object : Object) (
 unfolding perform
 perform-Reaches s log at object offset act = refl
 
--- what each act comes to that shows nothing, and numbers without the casts that change nothing
+-- the result of each act without events, and numbers without the casts that change nothing
 pub ruleset silent = (perform-Goes, perform-Stops, perform-Touches, to_z-of_z)
 
--- what each act comes to, and numbers without the casts that change nothing
+-- the result of each act, and numbers without the casts that change nothing
 pub ruleset performing = (perform-Goes, perform-Stops, perform-Reads, perform-Touches, perform-Asks, perform-Allocates, perform-Reaches, map-push, to_z-of_z)

@@ -1,4 +1,4 @@
--- The state of a machine whose memory has changed: for the contracts of what changes only memory.
+-- The state of a machine whose memory has changed: for the contracts of functions that change only memory.
 use Rattle.std.proofs.Common.{◌≡◌, ℕ, ◌+◌, List, [], ◌∷◌, ◌++◌, map, reverse, length, Vec, Global, ap, ◌∙◌}
 use Rattle.cs_meaning.specs.Machine.{Operand, push, with_memory}
 use Rattle.cs_meaning.specs.Memory as meaning
@@ -25,7 +25,7 @@ pub state_allocated : (m : Machine) (memory : Memory) (seen : meaning.Memory) �
 unfolding state_of
 state_allocated m memory seen is f a = cc
 
--- in another frame, to which a value is given
+-- in another frame, which gets a value
 pub state_in_frame : (m : Machine) (frame : Frame) (memory : Memory) (value : Operand) (seen : meaning.Memory) → memory_of memory ≡ seen
     → KeepsCounts m.memory memory → push value (state_of (record m { frame = frame; memory = memory }))
     ≡ record (state_of m) { frame = record (frame_of frame) { stack = value ∷ (frame_of frame).stack }; memory = seen }
@@ -35,7 +35,7 @@ state_in_frame m frame memory value seen is kept =
     let a = kept.allocations in
     cc
 
--- in a new frame, which the one that runs has called
+-- in a new frame, called by the current one
 pub state_inside : (m : Machine) (frame : Frame) (callers : Vec Frame Global) (memory : Memory) (seen : meaning.Memory)
     → callers.items ≡ m.callers.items ++ m.frame ∷ [] → memory_of memory ≡ seen → length memory.frames.items ≡ length m.memory.frames.items + 1
     → length memory.heap.items ≡ length m.memory.heap.items
@@ -47,7 +47,7 @@ state_inside m frame callers memory seen called is f a =
     ap (λ (frames : List Frame). reverse (map frame_of frames)) called ∙ reverse-map-push frame_of m.callers.items m.frame in
     cc
 
--- after a call of a function without a body, which has drawn its number
+-- after a call of a function without a body, which used up a call number
 pub state_called : (m : Machine) (memory : Memory) (calls : ℕ) → KeepsCounts m.memory memory
     → state_of (record m { memory = memory; calls = calls }) ≡ record (state_of m) { memory = memory_of memory; calls = calls }
 unfolding state_of

@@ -1,15 +1,15 @@
--- Lists stored in reverse order: for the contracts of `Machine`.
+-- Lists that are stored with their first element last: for the contracts of `Machine`.
 use Rattle.std.proofs.Common.{◌≡◌, ℕ, zero, suc, ◌+◌, List, [], ◌∷◌, ◌++◌, map, drop, reverse, refl, ap, ◌∙◌, arith}
 use Rattle.std.specs.Prelude.{slice_get}
 use Rattle.std.proofs.lemmas.List.{reverse-append}
 use Rattle.cs_meaning.specs.Machine.{Operand, State, with_stack, pop, pop_many}
 use Rattle.cs_objects.proofs.Pushing.{map-push}
 
--- one more at the end is one more at the beginning of what is read from the end
+-- an element appended to a list is the first one of the reversed list
 pub reverse-map-push : {A B : Type 0} (f : A → B) (xs : List A) (x : A) → reverse (map f (xs ++ x ∷ [])) ≡ f x ∷ reverse (map f xs)
 reverse-map-push f xs x = ap reverse (map-push f xs x) ∙ reverse-append (map f xs) (f x ∷ [])
 
--- what is after the first elements of a list
+-- the elements after the first ones of a list
 pub slice_get-drop : {A : Type 0} (xs : List A) (n k : ℕ) → slice_get (drop n xs) k ≡ slice_get xs (n + k)
 slice_get-drop [] zero k = grind arith
 slice_get-drop [] (suc n) k = refl
@@ -24,7 +24,7 @@ pop-pop m = ap (λ stack. with_stack stack m) (twice m.frame.stack)
     twice [] = refl
     twice (x ∷ xs) = refl
 
--- the machine without its newest operand, and without so many more
+-- the machine without its newest operand, and then without n more
 pub pop-many : (n : ℕ) (m : State) → pop_many n (pop m) ≡ pop_many (suc n) m
 pop-many n m = ap (λ stack. with_stack stack m) (following n m.frame.stack)
   where

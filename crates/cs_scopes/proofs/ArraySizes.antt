@@ -24,7 +24,7 @@ module _ (model : DataModel) (table : List StructType) (at : Place) (base : Shap
       ∙ ap (λ i. lift (array_of model table at (get_or ns k (pos 0))) (arrayed model table at base (drop i ns))) (sym (add-one k) ∙ sym is)
       ∙ ap (lift (array_of model table at (get_or ns k (pos 0)))) inside ∙ lift-fine (array_of model table at (get_or ns k (pos 0))) ty
 
-  -- one more array round the others, or none
+  -- one more array around the others, or none
   pub array_taken : (k j : ℕ) (ns : List ℤ) (n : ℤ) (ty whole : Shape) → j ≡ k + 1 → k < length ns → n ≡ get_or ns k (pos 0)
       → arrayed model table at base (drop j ns) ≡ Fine ty → array_of model table at n ty ≡ Fine whole
       → arrayed model table at base (drop k ns) ≡ Fine whole

@@ -17,7 +17,7 @@ use Rattle.cs_scopes.specs.declared.scope.TagMeaning.{TagMeaning}
 use Rattle.cs_scopes.specs.Scopes.{newest, tagged}
 use Rattle.cs_scopes.specs.Entries.{declarations_in, newest_place, place_at, Indexed, HasEntered, is_after, tag_of, tags_in}
 
--- a declaration stands at a place, and says this
+-- the declaration at this index has this meaning
 pub record Found (ds : List Declaration) (m : Option Meaning) (i : ℕ) : Type 0 where
   pub declaration : Declaration
   pub at : slice_get ds i ≡ Some declaration
@@ -30,7 +30,7 @@ one_more d ds None m true h = record { declaration = d; at = refl; says = ap (λ
 one_more d ds None m false h = ap (λ x. option_or x None) h
 one_more d ds (Some i) m here h = record { declaration = h.declaration; at = h.at; says = ap (λ x. option_or x (cond here (Some d.meaning) None)) h.says }
 
--- what a name stands for is what the declaration at its place says
+-- a name has the meaning of the declaration at its index
 pub newest_found : (name : List ℕ) (ds : List Declaration) → MatchOption (newest_place name ds) (newest name ds ≡ None) (Found ds (newest name ds))
 newest_found name [] = refl
 newest_found name (d ∷ ds) = one_more d ds (newest_place name ds) (newest name ds) (pointwise nat_eq d.name name) (newest_found name ds)
@@ -49,7 +49,7 @@ newest_place-push name (e ∷ ds) d =
     ap (λ p. option_or (option_map suc p) (cond (pointwise nat_eq e.name name) (Some 0) None)) (newest_place-push name ds d)
     ∙ pushed (pointwise nat_eq e.name name) (length ds) (pointwise nat_eq d.name name) (newest_place name ds)
 
--- the same of entries
+-- the same for entries
 entry_place-push : (name : List ℕ) (es : List Entry) (e : Entry)
     → newest_place name (declarations_in (es ++ e ∷ []))
     ≡ cond (pointwise nat_eq e.declaration.name name) (Some (length es)) (newest_place name (declarations_in es))
@@ -59,7 +59,7 @@ entry_place-push name es e =
     ∙ ap (λ n. cond (pointwise nat_eq e.declaration.name name) (Some n) (newest_place name (declarations_in es)))
     (length-map es (λ (x : Entry). declaration_of x.declaration))
 
--- a list with one more at its end, cut before one of its elements: that is the added one, or stands before it
+-- a list with one more element at its end, cut before one of its elements: that is the new one, or comes before it
 record Cut {A : Type 0} (es first : List A) (x : A) : Type 0 where
   rest : List A
   is : es ≡ first ++ x ∷ rest
@@ -76,7 +76,7 @@ cut_push (y ∷ es) (z ∷ first) following e x h = further (cut_push es first f
     further (inl p) = let same : first ≡ es = p.0 in inl (cc, p.1)
     further (inr c) = let is : es ≡ first ++ x ∷ c.rest = c.is in inr (record { rest = c.rest; is = cc })
 
--- the table has the places of one more declaration
+-- the table has the indices of one more declaration
 pub still_indexed : {S : Type 0} (old new : IndexMap (List ℕ) (Option ℕ) S) (es more : List Entry) (e : Entry) (name : List ℕ) (place : ℕ)
     → Indexed old es → name ≡ e.declaration.name → place ≡ length es → e.before ≡ place_at old name → more ≡ es ++ e ∷ []
     → HasEntered old new name (Some place) → Indexed new more
@@ -98,13 +98,13 @@ still_indexed old new es more e name place indexed same is before added entered 
         ∙ ap (λ l. newest_place x.declaration.name (declarations_in l)) (sym p.0)
     last first following x (inr c) = indexed.before first c.rest x c.is
 
--- the same places
+-- the same indices
 pub indexed_as : {S : Type 0} (old new : IndexMap (List ℕ) (Option ℕ) S) (es same : List Entry) → Indexed old es → same ≡ es
     → ((other : List ℕ) → place_at new other ≡ place_at old other) → Indexed new same
 indexed_as old new es same indexed is kept =
     subst (Indexed new) (sym is) (record { each = λ other. kept other ∙ indexed.each other; before = indexed.before })
 
--- the table without the last declaration's place
+-- the table without the index of the last declaration
 pub last_place : {S : Type 0} (places : IndexMap (List ℕ) (Option ℕ) S) (es rest : List Entry) (e : Entry) → Indexed places es → es ≡ rest ++ e ∷ []
     → is_some (place_at places e.declaration.name) ≡ true
 last_place places es rest e indexed split =
@@ -128,7 +128,7 @@ indexed_less old new es rest e indexed split entered = record {
         indexed.each other ∙ ap (λ l. newest_place other (declarations_in l)) split ∙ entry_place-push other rest e
         ∙ ap (λ t. cond t (Some (length rest)) (newest_place other (declarations_in rest))) h
 
--- what the table's place for a name says of it
+-- the table's index for a name leads to its meaning
 pub newest_none : {S : Type 0} (places : IndexMap (List ℕ) (Option ℕ) S) (es : List Entry) (name : List ℕ) → Indexed places es
     → place_at places name ≡ None → newest name (declarations_in es) ≡ None
 newest_none places es name h e =
@@ -158,7 +158,7 @@ found_is es m i e h read =
     ∙ ap (option_map (λ (x : Entry). declaration_of x.declaration)) (slice_get-get_or es i e within) in
     ap (λ (x : Entry). Some (meaning_of x.declaration.meaning)) read ∙ sym (ap (option_map (λ (d : Declaration). d.meaning)) there) ∙ sym h.says
 
--- a name is declared after the first declarations just where its place is none of theirs
+-- a name is declared after the first declarations exactly if its index isn't one of theirs
 one_after : (outer : ℕ) (p : Option ℕ) (here : Bool) → is_after (suc outer) (option_or (option_map suc p) (cond here (Some 0) None)) ≡ is_after outer p
 one_after outer (Some place) here = leb-suc-suc outer place
 one_after outer None true = leb-suc-zero outer
@@ -189,7 +189,7 @@ pub after_says : {S : Type 0} (places : IndexMap (List ℕ) (Option ℕ) S) (es 
     → Indexed places es → p ≡ place_at places name → is_after outer p ≡ is_some (newest name (drop outer (declarations_in es)))
 after_says places es name outer p indexed is = ap (is_after outer) (is ∙ indexed.each name) ∙ declared_after name (declarations_in es) outer
 
--- the first of the first ones
+-- the first n of the first m elements
 pub take_less : {A : Type 0} (n m : ℕ) (xs : List A) → n ≤ m → take n (take m xs) ≡ take n xs
 take_less zero m xs h = refl
 take_less (suc n) zero xs h = absurd (omega (arith, h))

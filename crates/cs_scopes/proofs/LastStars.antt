@@ -1,4 +1,4 @@
--- The last two stars of pointers after one more word: for whether a parameter points to something const.
+-- The last two stars of pointers after one more specifier: for whether a parameter points to something const.
 use Rattle.std.proofs.Common.{◌≡◌, Bool, true, false, List, [], ◌∷◌, ◌++◌, Some, None, refl, sym, ap, ◌∙◌}
 use Rattle.cs_ast.specs.declared.raw.written_type.PointerWord.{PointerWord}
 use Rattle.cs_ast.specs.declared.raw.written_type.PointerWord.TheVariants.{Star, Const}

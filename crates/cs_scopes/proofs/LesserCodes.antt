@@ -9,7 +9,7 @@ use Rattle.cs_scopes.specs.declared.refusal.TypeCode.TheVariants.{NotConstant, V
 use Rattle.cs_scopes.specs.Verdicts.{number_of}
 use Rattle.cs_scopes.specs.Faults.{lesser, least_code}
 
--- the codes by their numbers, which begin at 1
+-- the codes by their numbers, which start at 1
 abbrev codes : List TypeCode
 codes = UnknownName ∷ UnknownName ∷ DeclaredTwice ∷ NotLvalue ∷ OperandTypes ∷ ArgumentCount ∷ IncompleteType ∷ Size ∷ NoTarget
     ∷ PointerConversion ∷ CaseTwice ∷ Jump ∷ NoMember ∷ Initializer ∷ FunctionName ∷ NotConstant ∷ VoidValue ∷ Return ∷ TooManyScalars
@@ -81,7 +81,7 @@ lesser-assoc a b c = by_tests (nat_le (number_of a) (number_of b)) (nat_le (numb
         absurd (omega (arith, one, two, three))
     by_tests false false false e f g = ap (λ x. lesser x c) (second_is a b e) ∙ second_is b c f ∙ sym (ap (lesser a) (second_is b c f) ∙ second_is a c g)
 
--- the least of the codes at one place, in whatever groups they are judged
+-- the least of the codes at one position doesn't depend on how they are grouped
 pub least_code-assoc : (a b c : Option TypeCode) → least_code (least_code a b) c ≡ least_code a (least_code b c)
 least_code-assoc None b c = refl
 least_code-assoc (Some a) None c = refl

@@ -50,7 +50,7 @@ pub lift3-first : {A B C D : Type 0} (rule : A → B → C → Verdict D) (code 
 unfolding lift3
 lift3-first rule code place second third = refl
 
--- what refuses a part refuses the whole
+-- a type error of a part is one of the whole
 pub lift-refused : {A B : Type 0} (rule : A → Verdict B) (v : Verdict A) (r : TypeRefusal) → IsRefused v r → IsRefused (lift rule v) r
 lift-refused rule v (Code code place) e = ap (lift rule) e ∙ lift-fault rule code place
 lift-refused rule v Memory e = tt
@@ -80,10 +80,10 @@ pub lift3-refused-third : {A B C D : Type 0} (rule : A → B → C → Verdict D
 lift3-refused-third rule a b third (Code code place) e = ap (lift3 rule (Fine a) (Fine b)) e ∙ lift3-third rule a b code place
 lift3-refused-third rule a b third Memory e = tt
 
--- what rules come to
+-- the results of rules
 pub ruleset lifts = (lift-fine, lift-fault, lift2-fine, lift2-second, lift2-first, lift3-fine, lift3-third, lift3-second, lift3-first, lift-refused)
 
--- what holds of a verdict holds of an equal one
+-- what holds for a result holds for an equal one
 pub yields_as : {v w : Verdict Typed} (r : Result Expr TypeRefusal) → v ≡ w → Yields w r → Yields v r
 yields_as r e h = subst (λ x. Yields x r) (sym e) h
 

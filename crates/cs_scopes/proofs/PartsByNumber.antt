@@ -17,7 +17,7 @@ copies-past zero i ty h = refl
 copies-past (suc count) zero ty h = absurd (omega arith)
 copies-past (suc count) (suc i) ty h = copies-past count i ty (omega arith)
 
--- the type of a member at its place
+-- the type of a member at its index
 pub member_type : (members : List Member) (i : ℕ) (m : Member) → slice_get members i ≡ Some m
     → slice_get (map (λ (m : Member). m.ty) members) i ≡ Some m.ty
 member_type members i m e = slice_get-map (λ (m : Member). m.ty) members i ∙ ap (option_map (λ (m : Member). m.ty)) e

@@ -25,11 +25,11 @@ use Rattle.cs_well_formed.proofs.FittingDoors.{assigned_are_bounded, tests_are_b
 use Rattle.cs_well_formed.proofs.FittingInitials.{initials_are_bounded}
 use Rattle.cs_well_formed.proofs.Verdicts.{IfFine}
 
--- the nodes of what is known: string literals, and structs with their members
+-- the nodes of the string literals and structs that are known, with their members
 abbrev pub nodes_known : Environment → ℕ
 nodes_known k = texts_nodes k.literals + known_nodes k
 
--- what a verdict gives has what each value has that it is
+-- to prove a property of a result, prove it of each value that the result may be
 by_value : {A : Type 0} (P : A → Type 0) (v : Verdict A) → ((a : A) → v ≡ Fine a → P a) → IfFine v P
 by_value P (Fine a) h = h a refl
 by_value P (Fault code place) h = tt
@@ -77,6 +77,6 @@ module _ (k : Environment) where
   pub parameters-bounded : (raw : RawParameters) → IfFine (parameters_typed k raw) (IsHead raw)
   parameters-bounded raw = by_value (IsHead raw) (parameters_typed k raw) (λ head is. parameters_are_bounded k raw head is)
 
--- after a text of some size
+-- after a text of some size, at most 16 times as many more nodes are known
 pub grows-by : (k m : Environment) (size : ℕ) → Grows k m size → nodes_known m ≤ nodes_known k + 16 * size
 grows-by k m size g = let same : texts_nodes m.literals ≡ texts_nodes k.literals = ap texts_nodes g.literals in omega (arith, g.structs, same)

@@ -61,18 +61,18 @@ use Rattle.cs_well_formed.proofs.TextSizes.{size-text, size-initial, size-specs}
 use Rattle.cs_statements.proofs.BoundedTexts.{some_size, declarator_size}
 use Rattle.cs_statements.proofs.AfterWords.{after_word-then}
 
--- the nodes that a function has so far, and what is known in it
+-- the variables of a function so far, and the nodes of what is known in it
 abbrev pub weight : Inside → ℕ
 weight i = nodes_known i.known + length i.variables
 
--- the nodes of statements after others
+-- the nodes of a list of statements with one more
 row-nodes : (before : List Statement) (last : Statement)
     → statements_nodes (in_a_row (before ++ last ∷ [])) ≡ statements_nodes (in_a_row before) + statement_nodes last
 row-nodes [] last = omega arith
 row-nodes (s ∷ ss) last = let e = row-nodes ss last in omega (arith, e)
 
 module _ (Is : Place → Type 0) where
-  -- an expression stands at one of the places
+  -- the position of an expression is one of these
   pub stands-at : (at : Place) (k : RawExprKind) → WrittenAmong Is at k → Is at
   stands-at at (form.Name name) h = h
   stands-at at (form.Number constant) h = h
@@ -101,7 +101,7 @@ module _ (Is : Place → Type 0) where
 
   -- ---- expressions
 
-  -- an expression of a text of some size, after what is known at a point
+  -- an expression from a text of some size, and what is known after it
   abbrev GivesExpression : Inside → ℕ → Part Typed → Type 0
   GivesExpression i size p = StandsAmong Is p.found × (weight p.inside + expression_nodes p.found ≤ weight i + 16 * size)
 
@@ -161,7 +161,7 @@ module _ (Is : Place → Type 0) where
 
   -- ---- declarations
 
-  -- statements so far, with a bound that allows a text of some size after them
+  -- statements so far, within a bound that leaves room for a text of some size after them
   abbrev pub HasRoom : ℕ → ℕ → TypedStatements → Type 0
   HasRoom room size reported = StatementsStandAmong Is (in_a_row reported.statements)
       × (weight reported.inside + statements_nodes (in_a_row reported.statements) + 24 * size ≤ room)
@@ -177,7 +177,7 @@ module _ (Is : Place → Type 0) where
   abbrev first_length : Option RawFirstValue → Kinds → ℕ
   first_length first rest = text_size (first_value_text (option_map (λ (v : RawFirstValue). initial v.initial) first) rest)
 
-  -- a local that fits into so much, with something after it
+  -- a declared local within a bound that leaves room for a text after it
   abbrev GivesLocal : ℕ → ℕ → LocalDeclared → Type 0
   GivesLocal room size one = StatementStandsAmong Is one.statement × (weight one.inside + statement_nodes one.statement + 24 * size ≤ room)
 
@@ -284,11 +284,11 @@ module _ (Is : Place → Type 0) where
       (λ p g. (((stands-at e.place e.kind.value among, g.0), tt), omega (arith, g.1, long)))
   first-room i (first_part.Declare s objects) rest among = declaration-room _ s objects.items (no_statements i) rest among (tt, omega arith)
 
-  -- a statement that fits into so much, with something after it
+  -- a statement within a bound that leaves room for a text after it
   abbrev pub GivesStatement : ℕ → ℕ → Part Statement → Type 0
   GivesStatement room size p = StatementStandsAmong Is p.found × (weight p.inside + statement_nodes p.found + 24 * size ≤ room)
 
-  -- a `switch` so far, with a bound that allows what follows
+  -- a `switch` so far, within a bound that leaves room for a text after it
   abbrev SwitchHasRoom : ℕ → ℕ → Switching → Type 0
   SwitchHasRoom room size s =
       StatementsStandAmong Is (in_a_row s.reported.statements)

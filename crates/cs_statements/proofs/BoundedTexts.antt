@@ -15,7 +15,7 @@ use Rattle.cs_well_formed.proofs.TextSizes.{size-following, size-pointers, size-
 pub some_size : (e : Option Written) (rest : Kinds) → text_size (some_text e rest) ≡ size_of (some_text e) + text_size rest
 some_size e rest = size-following (some_text e) (optional_append e) rest
 
--- a declarator has a name at least
+-- a declarator has at least one token, its name
 pub declarator_size : (d : Declarator) (rest : Kinds) → 1 + text_size rest ≤ text_size (declarator_text d rest)
 declarator_size d rest =
     let pointers = size-pointers d.pointers (token.Name d.name ∷ brackets_text d.bounds rest) in
@@ -25,7 +25,7 @@ declarator_size d rest =
 pub declarators_size : (ds : List Declarator) (rest : Kinds) → text_size rest ≤ text_size (with_commas declarator_text ds rest)
 declarators_size ds rest = let e = size-with_commas declarator_text declarator_append ds rest in omega (arith, e)
 
--- parameters are as many as their commas, and one
+-- a text of parameters after commas has at least one token for each parameter
 further_parameters : (list : List RawParameter) (rest : Kinds)
     → length list + text_size rest ≤ text_size (each_after_comma parameter_text (map parameter list) rest)
 further_parameters [] rest = omega arith

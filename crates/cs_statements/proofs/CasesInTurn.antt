@@ -45,7 +45,7 @@ module _ (at : Place) (so_far : Switching) (ty : Shape) (tree : RawExpr) (c : Co
     pub constant_is : lift (constant_after at so_far ty) (value_of c tree) ≡ case_added at so_far (Some number)
     constant_is = lift_is (constant_after at so_far ty) _ n said ∙ ap (λ m. case_added at so_far (Some m)) (sym wraps)
 
--- the rules that go over lists of items
+-- the rules that process the items of a list one by one
 pub items_over : (w : Where) → GoesOver (body_typed w) (item_typed w)
 items_over w = (λ is i so_far. refl, λ so_far. refl)
 

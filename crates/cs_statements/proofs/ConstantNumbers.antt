@@ -30,7 +30,7 @@ use Rattle.cs_scopes.specs.Verdicts.{Verdict, Fine, Fault, lift}
 use Rattle.cs_folding.proofs.Numbers.{in_c}
 use Rattle.cs_statements.specs.Statements.{wrapped_in}
 
--- a number, if there is one, is one of C
+-- an optional number that some integer type of C can represent
 abbrev Small : Option ℤ → Type 0
 Small o = IfSome o IsIntegerOfC
 
@@ -164,7 +164,7 @@ unfolding lift finished
 finished_small model (Fine (Of at s form)) ty n h = constant_small at s (number_in model true (Of at s form)) ty n (number_small model true (Of at s form)) h
 finished_small model (Fault code at) ty n h = absurd cc
 
--- the number of a constant expression, and the same in the type of a `switch`
+-- the number of a constant expression is one that an integer type of C can represent
 pub value_in_c : (c : Context) (e : RawExpr) (ty : IntType) (n : ℤ) → value_of c e ≡ Fine (ty, n) → IsIntegerOfC n
 unfolding value_of done
 value_in_c c e ty n h = finished_small c.model _ ty n h

@@ -51,7 +51,7 @@ starts-trans a b c h k = (h.0 ++ k.0, k.1 ∙ ap (λ xs. xs ++ k.0) h.1 ∙ appe
 pub start-take : {A : Type 0} (first all : List A) → Starts first all → take (length first) all ≡ first
 start-take first all h = ap (take (length first)) h.1 ∙ take_at first h.0 (length first) refl
 
--- the declaration of something that is no function
+-- the declaration of something other than a function
 abbrev pub IsPlain : Meaning → Type 0
 IsPlain (Typedef ty) = Unit {0}
 IsPlain (Constant value) = Unit {0}
@@ -59,7 +59,7 @@ IsPlain (Global number ty) = Unit {0}
 IsPlain (Local number ty) = Unit {0}
 IsPlain (Function f) = ⊥
 
--- what is known after a part: declarations of the same scope stand after those before it, and none is a function
+-- what is known after a part: its declarations come after those of the same scope before it, and none is a function
 pub record DeclaresOn (k m : Environment) : Type 0 where
   pub more : List Declaration
   pub declarations : declarations_of m ≡ declarations_of k ++ more
@@ -69,7 +69,7 @@ pub record DeclaresOn (k m : Environment) : Type 0 where
 pub on-starts : (k m : Environment) → DeclaresOn k m → Starts (declarations_of k) (declarations_of m)
 on-starts k m h = (h.more, h.declarations)
 
--- where all that was changed are structs, tags, bodies or literals
+-- if only structs, tags, bodies or literals have changed
 pub same-on : (k m : Environment) → declarations_of m ≡ declarations_of k → m.outer ≡ k.outer → DeclaresOn k m
 same-on k m is outer = record {
   more = [];
@@ -98,7 +98,7 @@ declaring-on name meaning k plain = record {
   outer = refl;
 }
 
--- ---- the words before declarators
+-- ---- the specifiers before declarators
 
 abbrev pub TypeDeclaresOn : Environment → Typing → Type 0
 TypeDeclaresOn k r = DeclaresOn k r.1
@@ -219,7 +219,7 @@ words_type-on k at_tag at all (words.TheVariants.Struct' name shape row ∷ othe
     (λ o h. struct_read-on k o k.reading name _ h (members_read-on o.known row nothing_laid))
 words_type-on k at_tag at all (words.TheVariants.Enum name constants comma ∷ others) = enum_body-on k (tag_place at at_tag) name constants.items
 
--- after the words before declarators
+-- after the specifiers before declarators
 pub specs_type-on : (k : Environment) (at : Place) (raw : RawSpecs) → IfFine (specs_type k at raw) (TypeDeclaresOn k)
 specs_type-on k at raw = words_type-on k raw.tag at (plain_words raw.words.items) raw.words.items
 

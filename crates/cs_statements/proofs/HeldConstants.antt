@@ -36,7 +36,7 @@ use Rattle.cs_well_formed.specs.Constants.{HasConstants, InitialHasConstants}
 use Rattle.cs_ast.specs.HeldTokens.{IsHeldToken}
 use Rattle.cs_well_formed.proofs.Tokens.{AreHeld, text-held, initial_text-held}
 
--- the constants of what stands after a declarator, and of declared objects
+-- the constants of an optional initializer, and of declared objects
 abbrev pub FirstValueHasConstants : Option RawFirstValue → Type 0
 FirstValueHasConstants None = Unit {0}
 FirstValueHasConstants (Some value) = InitialHasConstants (initial value.initial)
@@ -55,7 +55,7 @@ FirstHasConstants (first_part.Run e) = HasConstants (written e)
 FirstHasConstants (first_part.Declare s objects) = ObjectsHaveConstants objects.items
 
 abbrev mutual
-  -- the constants of a statement are not too wide
+  -- the constants of a statement aren't too wide
   pub StatementHasConstants : RawStmtKind → Type 0
   StatementHasConstants (kind.Block' shape row) = RowHasConstants row
   StatementHasConstants kind.Empty = Unit {0}
@@ -91,7 +91,7 @@ abbrev mutual
   SwitchHasConstants kinds.end_of-RawSwitchItem = Unit {0}
   SwitchHasConstants (kinds.more_of-RawSwitchItem first others) = SwitchItemHasConstants first × SwitchHasConstants others
 
--- the same of a function's body, of a part of a file, and of a file
+-- the same for a function's body, for an external declaration, and for a file
 abbrev pub ItemsHaveConstants : List RawItem → Type 0
 ItemsHaveConstants [] = Unit {0}
 ItemsHaveConstants (first ∷ others) = ItemHasConstants first × ItemsHaveConstants others
@@ -107,7 +107,7 @@ abbrev pub FileHasConstants : List RawExternal → Type 0
 FileHasConstants [] = Unit {0}
 FileHasConstants (e ∷ es) = ExternalHasConstants e.kind × FileHasConstants es
 
--- ---- what stands after the parts of declarations
+-- ---- the tokens after the parts of declarations
 
 after_type_word : (w : TypeWord) (rest : Kinds) → AreHeld (type_word_text w rest) → AreHeld rest
 after_type_word word.Const rest h = h.1
@@ -147,7 +147,7 @@ after_value (Some e) rest h = (text-held e rest h.1).1
 after_constant : (c : Constant) (rest : Kinds) → AreHeld (constant_text c rest) → AreHeld rest
 after_constant c rest h = after_value c.value rest h.1
 
--- a list with commas between its parts
+-- a list whose elements have commas between them
 module _ {A : Type 0} (of : A → Kinds → Kinds) (following : (a : A) (rest : Kinds) → AreHeld (of a rest) → AreHeld rest) where
   after_each : (all : List A) (rest : Kinds) → AreHeld (each_after_comma of all rest) → AreHeld rest
   after_each [] rest h = h
@@ -291,6 +291,6 @@ externals-held : (file : List RawExternal) (rest : Kinds) → AreHeld (externals
 externals-held [] rest h = (tt, h)
 externals-held (e ∷ es) rest h = let one = external-held e.kind _ h in let more = externals-held es rest one.1 in ((one.0, more.0), more.1)
 
--- where no token of a file is too wide, none of its constants is
+-- if no token of a file has a constant that is too wide, its tree has none
 pub file_text-held : (file : List RawExternal) → All IsHeldToken (file_text (map external file)) → FileHasConstants file
 file_text-held file h = (externals-held file [] (recursion_from_All IsHeldToken (file_text (map external file)) h)).0

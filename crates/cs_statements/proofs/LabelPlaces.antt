@@ -21,7 +21,7 @@ first_from-push p i (x ∷ xs) y =
     cond b (Some i) (position_from p (i + 1) (xs ++ y ∷ []))
     ≡ option_or (cond b (Some i) (position_from p (i + 1) xs)) (cond (p y) (Some (i + length (x ∷ xs))) None)) [ true ↦ refl | false ↦ rest ]
 
--- the first place that passes stays the first, and else it may be the last one
+-- the first element that passes remains the first; if none passes, the new last one may
 position-push : {A : Type 0} (p : A → Bool) (xs : List A) (y : A)
     → position p (xs ++ y ∷ []) ≡ option_or (position p xs) (cond (p y) (Some (length xs)) None)
 position-push p xs y =

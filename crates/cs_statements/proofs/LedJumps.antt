@@ -42,18 +42,18 @@ use Rattle.cs_well_formed.specs.Statements.{label_count, label_counts, AreNumber
 use Rattle.cs_well_formed.proofs.Verdicts.{IfFine, if_fine-any, if_fine-weaker, lift-then, cond-then}
 use Rattle.cs_statements.proofs.AfterWords.{after_word-then}
 
--- how many labels stand in statements
+-- the number of labels in a list of statements
 abbrev row_labels : List Statement → ℕ
 row_labels statements = label_counts (in_a_row statements)
 
--- no label is met in between
+-- no label occurs in between
 abbrev SameMet : Inside → Inside → Type 0
 SameMet i j = j.met ≡ i.met
 
 abbrev PartSameMet : {A : Type 0} → Inside → Part A → Type 0
 PartSameMet i p = SameMet i p.inside
 
--- ---- statements in a row
+-- ---- lists of statements
 
 count-push : (before : List Statement) (s : Statement) → row_labels (before ++ s ∷ []) ≡ row_labels before + label_count s
 count-push [] s = omega arith
@@ -71,14 +71,14 @@ jumps-push : (w : Where) (before : List Statement) (s : Statement) → AllJumpsL
 jumps-push w [] s h k = (k, tt)
 jumps-push w (first ∷ before) s h k = (h.0, jumps-push w before s h.1 k)
 
--- a statement with so many labels, which have the next numbers
+-- a statement with this number of labels, which have the next numbers
 pub record PartIsLed (w : Where) (i : Inside) (n : ℕ) (p : Part Statement) : Type 0 where
   pub count : label_count p.found ≡ n
   pub met : p.inside.met ≡ i.met + n
   pub numbered : AreNumbered i.met p.found
   pub jumps : JumpsLead w.breaks w.continues p.found
 
--- statements with so many labels more than those before them
+-- statements with this number of labels more than those before them
 pub record ReportedIsLed (w : Where) (so_far : TypedStatements) (n : ℕ) (reported : TypedStatements) : Type 0 where
   pub count : row_labels reported.statements ≡ row_labels so_far.statements + n
   pub met : reported.inside.met ≡ so_far.inside.met + n
@@ -124,7 +124,7 @@ more-led w a b c n m h k = record {
   jumps = λ rows. k.jumps (h.jumps rows);
 }
 
--- statements whose labels are those of two parts
+-- statements with the labels of two parts
 names-led : (w : Where) (a c : TypedStatements) (first others : List (List ℕ)) → ReportedIsLed w a (length first + length others) c
     → ReportedIsLed w a (length (first ++ others)) c
 names-led w a c first others h = subst (λ n. ReportedIsLed w a n c) (sym (length-append first others)) h
@@ -212,7 +212,7 @@ declaration_typed-led w s objects so_far =
     if_fine-weaker (ReportedIsLed w known 0) (ReportedIsLed w so_far 0) (locals_added ty.0 objects known) (locals_added-led w ty.0 objects known)
     (λ after h. more-led w so_far known after 0 0 (none-led w so_far known refl refl) h))
 
--- the first part of a `for` stands outside of the loop
+-- the first clause of a `for` is outside of the loop
 first_typed-led : (w : Where) (i : Inside) (first : RawFirst) → IfFine (first_typed i first) (ReportedIsLed w (no_statements i) 0)
 first_typed-led w i first_part.Empty = none-led w (no_statements i) (no_statements i) refl refl
 first_typed-led w i (first_part.Run e) =
@@ -227,7 +227,7 @@ after_same : {A : Type 0} (w : Where) (i : Inside) (n : ℕ) (rule : Part A → 
     → ((p : Part A) → SameMet i p.inside → IfFine (rule p) (PartIsLed w i n)) → IfFine (lift rule v) (PartIsLed w i n)
 after_same w i n rule v h go = lift-then (PartSameMet i) (PartIsLed w i n) rule v h go
 
--- a place outside of loops, with the labels of another one
+-- a context outside of loops, with the labels of another one
 abbrev no_loop : Where → Where
 no_loop w = record { returns = w.returns; labels = w.labels; breaks = false; continues = false }
 
@@ -403,7 +403,7 @@ number_from-below p i (x ∷ xs) end is = by_test (p x) (number_from-below p (i 
     by_test true h = omega (arith, is)
     by_test false h = h
 
--- a label that is found is one of the function's
+-- the number of a label that is found is below the number of labels
 pub label_number-below : (name : List ℕ) (labels : List (List ℕ)) → IfSome (label_number name labels) (λ n. n < length labels)
 label_number-below name labels =
     let named : List ℕ → Bool = λ other. pointwise nat_eq other name in

@@ -18,7 +18,7 @@ use Rattle.cs_declarations.specs.Initializers.{initial_judged, kept_with, initia
 use Rattle.cs_well_formed.proofs.Names.{Begins, begins-self, begins-trans, literals-begin}
 use Rattle.cs_well_formed.proofs.Verdicts.{IfFine, if_fine-any, lift-then, cond-then, unless_fault-then}
 
--- what is read begins with these literals
+-- the literals after an initializer begin with these
 abbrev pub GoesOnFrom : Literals → Reading → Type 0
 GoesOnFrom literals r = Begins literals r.1
 

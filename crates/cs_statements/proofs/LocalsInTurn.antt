@@ -13,7 +13,7 @@ use Rattle.cs_declarations.specs.Objects.{object_type}
 use Rattle.cs_declarations.proofs.FoldedSoFar.{GoesOver}
 use Rattle.cs_statements.specs.Locals.{Inside, LocalDeclared, TypedStatements, with_local, local_initialized, local_added, after_local, locals_added}
 
--- a local whose name is new, after its type
+-- the rule for a local whose name is new, once its type is known
 abbrev local_rest : RawInit → Inside → Shape → Verdict LocalDeclared
 local_rest d i ty = local_initialized (length i.variables) ty d.declarator.place d.initial (with_local d.declarator.name ty i)
 
@@ -28,7 +28,7 @@ module _ (base : Shape) (d : RawInit) (i : Inside) (new : is_declared_here d.dec
       → local_added base d i ≡ local_initialized (length i.variables) ty d.declarator.place d.initial (with_local d.declarator.name ty i)
   local_typed ty e = local_new ∙ lift_is (local_rest d i) _ ty e
 
--- a local after statements
+-- the rule for a local after statements
 abbrev pub local_after : Shape → RawInit → TypedStatements → Verdict TypedStatements
 local_after base d so_far = lift (after_local so_far.statements) (local_added base d so_far.inside)
 

@@ -13,12 +13,12 @@ use Rattle.cs_ast.specs.TypedTree.{Statement, count_of}
 use Rattle.cs_statements.specs.Statements.{in_a_row, is_void, is_case, same_value, wrapped_in}
 use Rattle.cs_well_formed.specs.Statements.{IsNumberOf}
 
--- statements in a row are as many as in the list
+-- a list of statements has as many statements as its tree
 pub count-length : (statements : List Statement) → count_of (in_a_row statements) ≡ length statements
 count-length [] = refl
 count-length (s ∷ ss) = ap suc (count-length ss)
 
--- a case that isn't there yet has another number than each that is
+-- a new case has another number than each case before it
 same_value-itself : (value : Option ℤ) → same_value value value ≡ true
 same_value-itself (Some n) = int_eq_equiv.refl n
 same_value-itself None = refl

@@ -29,7 +29,7 @@ use Rattle.cs_statements.proofs.StatementRows.{statement_typed-Block, row-statem
 use Rattle.cs_statements.proofs.StatementsInTurn.{block_after, block-closed, if_after, else_after, if_else_after}
 
 module _ (w : Where) (i : Inside) (at : Place) (tree : RawStmtKind) where
-  -- what holds of a kind holds of the tree of that kind
+  -- what holds of a kind of statement holds of a tree of that kind
   pub reported_as : (k : RawStmtKind) (result : Result StmtKind TypeRefusal) (now : HeldInside) → tree ≡ k
       → AnswersWith (kind_part at) (statement_typed w i at k) result now → AnswersWith (kind_part at) (statement_typed w i at tree) result now
   reported_as k result now is h = subst (λ x. AnswersWith (kind_part at) (statement_typed w i at x) result now) (sym is) h
@@ -115,7 +115,7 @@ module _ (w : Where) (i : Inside) (at : Place) (tree : RawStmtKind) where
               → statement_typed w i at tree ≡ Fine (kind_part at (held.IfElse t one two) now)
           else_reported two now runs_last = else_ran ∙ lift_is (if_else_made at (typed t) (statement one)) _ (statement_part two now) runs_last
 
--- the parts of `for` and `switch` as they are held
+-- the parts of `for` and `switch` as they are represented
 pub for_held : (at : Place) (first : Vec Stmt Global) (test last : Option Expr) (one : Stmt) (inside following : Inside) → inside ≡ following
     → part following (For at (in_a_row (map statement first.items)) (some_typed test) (some_typed last) (statement one))
     ≡ part inside (statement_at at (held.For first test last one))

@@ -1,4 +1,4 @@
--- The items of blocks and of `switch` over rows and over lists: for the statements that have them.
+-- The items of blocks and of `switch` as rows and as lists: for the statements that have them.
 use Rattle.std.proofs.Common.{◌≡◌, List, [], ◌∷◌, ◌++◌, map, refl, ap, ◌∙◌, Vec, Global}
 use mathlib.Core.Former.{Count}
 use Rattle.cs_types.specs.Shape.{Shape}
@@ -20,13 +20,13 @@ use Rattle.cs_statements.specs.Statements.{statement_typed, item_typed, items_ty
 use Rattle.cs_statements.specs.Statements.{switch_whole, labels_of, labels_of_item, labels_in, labels_of_items, labels_of_switch_item, labels_in_switch}
 use Rattle.cs_statements.specs.Statements.{labels_of_switch_list}
 
--- rules that give the same are the same after another one
+-- rules with equal results are equal after another rule
 lift-same : {A B : Type 0} (f g : A → Verdict B) (v : Verdict A) → ((a : A) → f a ≡ g a) → lift f v ≡ lift g v
 unfolding lift
 lift-same f g (Fine a) same = same a
 lift-same f g (Fault code at) same = refl
 
--- the row of a block's items, and of those of a `switch`
+-- the items of a block as a row, and those of a `switch`
 abbrev block_of : RawStmtKind → (n : Count) × kinds.Row_of-RawItem n
 block_of (kind.Block' shape row) = (_, row)
 block_of _ = (_, kinds.end_of-RawItem)
@@ -69,7 +69,7 @@ statement_typed-Switch w i at value items =
     (switch-row (in_switch w) (type_of v.found) row.0 row.1 (no_cases (in_block v.inside))
     ∙ ap (λ list. switch_list_typed (in_switch w) (type_of v.found) list (no_cases (in_block v.inside))) (kinds.items_hidden-the_row-RawSwitchItem-1 items)))
 
--- the labels in rows
+-- the labels of a row are those of its list
 labels-row : (n : _) (row : kinds.Row_of-RawItem n) → labels_in row ≡ labels_of_items (kinds.items-the_row-RawItem n row)
 labels-row n kinds.end_of-RawItem = refl
 labels-row n (kinds.more_of-RawItem first others) = ap (λ names. labels_of_item first ++ names) (labels-row _ others)
@@ -88,7 +88,7 @@ labels_of-Switch value items =
     let row = switch_of (kind.Switch value items) in
     labels-switch_row row.0 row.1 ∙ ap labels_of_switch_list (kinds.items_hidden-the_row-RawSwitchItem-1 items)
 
--- statements in a row
+-- a list of statements as the list type of typed trees
 pub row-statements : (statements : List Stmt) → in_a_row (map statement statements) ≡ statement_list statements
 row-statements [] = refl
 row-statements (s ∷ ss) = ap (Then (statement s)) (row-statements ss)

@@ -39,7 +39,7 @@ use Rattle.cs_statements.specs.Statements.{block_made, if_made, if_else_made, wh
 use Rattle.cs_statements.specs.Statements.{switch_list_typed, switch_whole, while_typed, do_typed, for_typed, label_typed}
 use Rattle.cs_statements.specs.View.{inside_of, typed_statements_of, typed_part, kind_part, kind_at}
 
--- an expression with the string literals after it
+-- an expression, with the string literals after it
 pub typed_after : (i : Inside) (tree : RawExpr) (v : Verdict Typed) (result : Result Expr TypeRefusal) (literals : Literals) (now : HeldInside)
     → Yields v result → OnOk result (literals ≡ literals_after i.known.literals tree.kind.value)
     → inside_of now ≡ knowing (with_literals literals i.known) i → AnswersWith typed_part (lift (part (past tree i)) v) result now
@@ -49,12 +49,12 @@ typed_after i tree v (Ok e) literals now reported texts is =
     ∙ ap (λ x. part x (typed e)) (sym is)
 typed_after i tree v (Err refusal) literals now reported texts is = lift-refused (part (past tree i)) v refusal reported
 
--- what an answer says holds of an equal verdict
+-- what a function returns for a result, it returns for an equal one
 pub answers_as : {A B C : Type 0} (view : A → B → C) (v w : Verdict C) (result : Result A TypeRefusal) (changed : B) → v ≡ w
     → AnswersWith view w result changed → AnswersWith view v result changed
 answers_as view v w result changed e h = subst (λ x. AnswersWith view x result changed) (sym e) h
 
--- what a function answers that stands between a word and its test
+-- the result of a function for the part between a keyword and its test
 pub answers_after : {A B C : Type 0} (view : A → B → C) (at : Place) (fault said : Option TypeCode) (v : Verdict C) (read result : Result A TypeRefusal)
     (changed : B) → fault ≡ said → result ≡ answer_after at fault read → AnswersWith view v read changed
     → AnswersWith view (after_word at said v) result changed
@@ -69,11 +69,11 @@ answers_after view at fault said v read result changed same is h =
     by_fault (Some code) (Err (Code other place)) h = ap (after_word at (Some code)) h
     by_fault (Some code) (Err Memory) h = tt
 
--- statements that a function answers in a list
+-- the statements of a list that a function returns
 abbrev pub listed : Vec Stmt Global → HeldInside → TypedStatements
 listed list following = typed_statements_of list.items following
 
--- the same where it is refused, and where it isn't
+-- if the function returns an error, the rule has this error; if it returns a value, the rule has this value
 pub refused_after : {A B C : Type 0} (view : A → B → C) (v : Verdict C) (result : Result A TypeRefusal) (changed : B) (r : TypeRefusal) → result ≡ Err r
     → AnswersWith view v result changed → IsRefused v r
 refused_after view v result changed r was h = subst (λ x. AnswersWith view v x changed) was h
@@ -82,7 +82,7 @@ pub given_after : {A B C : Type 0} (view : A → B → C) (v : Verdict C) (resul
     → AnswersWith view v result changed → v ≡ Fine (view value changed)
 given_after view v result changed value was h = subst (λ x. AnswersWith view v x changed) was h
 
--- a block by what it has, with what is known after it
+-- the rule for a block, once its statements are typed
 abbrev pub block_after : Place → TypedStatements → Verdict (Part Statement)
 block_after at reported = part reported.inside (Block at (in_a_row reported.statements))
 
@@ -92,7 +92,7 @@ unfolding lift
 block-closed i at (Fine reported) = refl
 block-closed i at (Fault code place) = refl
 
--- `if` after its test
+-- the rule for `if`, once its test is typed
 abbrev pub if_after : Where → Place → Place → RawStmtKind → Part Typed → Verdict (Part Statement)
 if_after w at place body t = lift (if_made at t.found) (statement_typed w t.inside place body)
 
@@ -102,7 +102,7 @@ else_after w at other test one = lift (if_else_made at test one.found) (statemen
 abbrev pub if_else_after : Where → Place → Place → RawStmtKind → RawStmt → Part Typed → Verdict (Part Statement)
 if_else_after w at place body other t = lift (else_after w at other t.found) (statement_typed w t.inside place body)
 
--- `while` after its test, and `do` after its body
+-- the rule for `while` once its test is typed, and for `do` once its body is
 abbrev while_after : Where → Place → RawStmt → Part Typed → Verdict (Part Statement)
 while_after w at body t = lift (while_made at t.found) (statement_typed (in_loop w) t.inside body.place body.kind.value)
 
@@ -144,7 +144,7 @@ module _ (w : Where) (i : Inside) (at : Place) (test : RawExpr) (body : RawStmt)
       pub do_taken : (t : Part Typed) → tested_in at one.inside test ≡ Fine t → do_typed w i at test body.place body.kind.value ≡ do_made at one.found t
       do_taken t tests = do_entered ∙ lift_is (do_after at test) _ one runs ∙ lift_is (do_made at one.found) _ t tests
 
--- `for` after its parts
+-- the rule for `for`, once its parts are typed
 abbrev for_last : Where → Inside → Place → Place → RawStmtKind → TypedStatements → Part (Option Typed) → Part (Option Typed)
     → Verdict (Part Statement)
 for_last w i at place body f t l = lift (for_made at i f.statements t.found l.found) (statement_typed (in_loop w) l.inside place body)
@@ -197,7 +197,7 @@ module _ (w : Where) (i : Inside) (at : Place) (first : RawFirst) (test last : O
             for_dropped ∙ lift_is (for_made at i f.statements t.found l.found) _ one
             (subst (λ x. statement_typed x l.inside place body ≡ Fine one) is runs)
 
--- `switch` after its value
+-- the rule for `switch`, once its controlling expression is typed
 abbrev switch_after : Where → Inside → Place → List RawSwitchItem → Part Typed → Verdict (Part Statement)
 switch_after w i at list v = lift (switch_made at i v.found) (switch_list_typed (in_switch w) (type_of v.found) list (no_cases (in_block v.inside)))
 
@@ -233,7 +233,7 @@ module _ (w : Where) (i : Inside) (list : List RawItem) (inner : Inside) (enters
       → block_typed w i list ≡ Fine (closed i reported)
   block_taken reported runs = block_entered ∙ lift_is (λ reported. Fine (closed i reported)) _ reported runs
 
--- a label, the first of its name
+-- a label that is the first of its name
 module _ (w : Where) (i : Inside) (at : Place) (name : List ℕ) (place : Place) (body : RawStmtKind) (first : is_first i (label_number name w.labels) ≡ true)
     (inner : Inside) (meets : inner ≡ meeting i) where
   label_met : label_typed w i at name place body ≡ lift (label_made at i.met) (statement_typed w inner place body)
@@ -248,7 +248,7 @@ module _ (w : Where) (i : Inside) (at : Place) (name : List ℕ) (place : Place)
       → label_typed w i at name place body ≡ label_made at i.met one
   label_taken one runs = label_met ∙ lift_is (label_made at i.met) _ one runs
 
--- statements with one more after them
+-- a list of statements with one more at its end
 pub reported_push : (before more : List Stmt) (s : Stmt) (now : HeldInside) → more ≡ before ++ s ∷ []
     → record { statements = map statement before ++ statement s ∷ []; inside = inside_of now } ≡ typed_statements_of more now
 reported_push before more s now is =
@@ -259,7 +259,7 @@ reported_push before more s now is =
 pub reported_none : (list : List Stmt) (now : HeldInside) → list ≡ [] → no_statements (inside_of now) ≡ typed_statements_of list now
 reported_none list now is = ap (λ l. typed_statements_of l now) (sym is)
 
--- after a scope
+-- what is known after a scope ends
 pub left_is : (i : Inside) (now : HeldInside) (k : HeldEnvironment) (m : ScopeSnapshot) → environment_of k ≡ left_to m (environment_of now.known)
     → m ≡ snapshot_of i.known → knowing (environment_of k) (inside_of now) ≡ after_block i (inside_of now)
 left_is i now k m leaves is = ap (λ x. knowing x (inside_of now)) (leaves ∙ ap (λ x. left_to x (environment_of now.known)) is)
@@ -270,7 +270,7 @@ closed_is i list now following is =
     let made : Inside → TypedStatements = λ x. record { statements = map statement list; inside = x } in
     ap made (sym is)
 
--- a part of which the inside is known
+-- a part whose context after it is known
 pub part_inside : {A : Type 0} (x : Inside) (v : Verdict A) (p : Part A) → lift (part x) v ≡ Fine p → x ≡ p.inside
 unfolding lift
 part_inside {A} x (Fine a) p h =
@@ -279,7 +279,7 @@ part_inside {A} x (Fine a) p h =
     ap (λ (q : Part A). q.inside) e
 part_inside {A} x (Fault code place) p h = absurd cc
 
--- what a jump says leaves what is known
+-- a jump doesn't change what is known
 pub answers_with : (at : Place) (now : HeldInside) (v : Verdict (Part Statement)) (result : Result StmtKind TypeRefusal)
     → Answers (λ kind. kind_at at kind (inside_of now)) v result → AnswersWith (kind_part at) v result now
 answers_with at now v (Ok kind) h = h

@@ -68,12 +68,12 @@ use Rattle.cs_statements.proofs.AfterWords.{after_word-then}
 
 -- ---- rules under a premise
 
--- what holds of a value under a premise
+-- a property of a value that holds under a premise
 pub under : {A : Type 0} (Q : Type 0) (P : A → Type 0) (v : Verdict A) → (Q → IfFine v P) → IfFine v (λ a. Q → P a)
 under Q P (Fine a) h = h
 under Q P (Fault code place) h = tt
 
--- two facts of one value
+-- two properties of one value
 pub both-fine : {A : Type 0} (P Q : A → Type 0) (v : Verdict A) → IfFine v P → IfFine v Q → IfFine v (λ a. P a × Q a)
 both-fine P Q (Fine a) h k = (h, k)
 both-fine P Q (Fault code place) h k = tt
@@ -90,27 +90,27 @@ found-last : (variables : List Variable) (v : Variable) → slice_get (variables
 found-last [] v = refl
 found-last (x ∷ vs) v = found-last vs v
 
--- where statements stand: in a function of a program whose structs are laid out
+-- the context of statements: a function of a program whose structs have layouts
 module _ (s : Setting) (laid_out : IsLaidOut s.program.model s.program.table) where
-  -- what is known here is a part of what the program and the function have, whose declared types name structs
+  -- the program and the function have all that is known here, and the declared types name structs
   pub record Has (i : Inside) : Type 0 where
     pub table : Keeps (table_of i.known) s.program.table
     pub texts : AreFirst s.program i.known.literals
     pub variables : AreVariables s i.variables
     pub types : TypesAroundAreNamed s
 
-  -- what is declared here is there, and the variables so far have whole types
+  -- what is declared here exists, and the variables so far have complete types
   pub record AreThere (i : Inside) : Type 0 where
     pub declared : All (λ (d : Declaration). IsThere s d.meaning) (declarations_of i.known)
     pub whole : All (λ (v : Variable). IsWhole s.program v.ty) i.variables
 
-  -- what is known here has the data model of the program, and its types name structs of the table so far
+  -- what is known here uses the data model of the program, and its types name structs of the table so far
   pub record Knows (i : Inside) : Type 0 where
     pub model : model_of i.known ≡ s.program.model
     pub known : KnownTypesAreNamed i.known.context
     pub variables : VariablesName (table_of i.known) i.variables
 
-  -- from one point to one after it: something is well formed, if the program has what is known after it
+  -- between two points: something is well formed, if the program has what is known at the second one
   pub record Gives (i j : Inside) (Well : Type 0) : Type 0 where
     pub knows : Knows i → Knows j
     pub longer : length (table_of i.known) ≤ length (table_of j.known)
@@ -134,7 +134,7 @@ module _ (s : Setting) (laid_out : IsLaidOut s.program.model s.program.table) wh
     well = λ h t. tt;
   }
 
-  -- something else that is well formed then
+  -- a consequence of what is well formed
   so : {A B : Type 0} (i j : Inside) → Gives i j A → (A → B) → Gives i j B
   so i j g follows = record {
     knows = g.knows;
@@ -165,7 +165,7 @@ module _ (s : Setting) (laid_out : IsLaidOut s.program.model s.program.table) wh
   met-knows : (i : Inside) → Knows i → Knows (meeting i)
   met-knows i is = record { model = is.model; known = is.known; variables = is.variables }
 
-  -- from a point inside of a new scope
+  -- from the point before a scope begins
   entering : {A : Type 0} (i j : Inside) → Gives (in_block i) j A → Gives i j A
   entering i j g = record {
     knows = λ is. g.knows (block-knows i is);
@@ -177,7 +177,7 @@ module _ (s : Setting) (laid_out : IsLaidOut s.program.model s.program.table) wh
     well = λ has t. g.well has (record { declared = t.declared; whole = t.whole });
   }
 
-  -- to the point after a scope that began here
+  -- to the point after a scope that began here ends
   leaving : {A : Type 0} (i j : Inside) → Gives i j A → Gives i (after_block i j) A
   leaving i j g = record {
     knows = λ is. let following = g.knows is in
@@ -201,7 +201,7 @@ module _ (s : Setting) (laid_out : IsLaidOut s.program.model s.program.table) wh
       inside : Has (after_block i j) → Has j
       inside has = record { table = has.table; texts = has.texts; variables = has.variables; types = has.types }
 
-  -- the next label is met
+  -- the next label occurs
   met-one : {A : Type 0} (i j : Inside) → Gives (meeting i) j A → Gives i j A
   met-one i j g = record {
     knows = λ is. g.knows (met-knows i is);
@@ -280,7 +280,7 @@ module _ (s : Setting) (laid_out : IsLaidOut s.program.model s.program.table) wh
 
   -- ---- declarations
 
-  -- statements after others
+  -- a list of well-formed statements
   abbrev Row : List Statement → Type 0
   Row statements = AreWellStatements s (in_a_row statements)
 
@@ -311,11 +311,11 @@ module _ (s : Setting) (laid_out : IsLaidOut s.program.model s.program.table) wh
   abbrev GivesLocal : Inside → LocalDeclared → Type 0
   GivesLocal i one = Gives i one.inside (IsWellStatement s one.statement)
 
-  -- the variable is there, with its type
+  -- the variable exists, with its type
   abbrev IsVariable : ℕ → Shape → Type 0
   IsVariable number ty = (v : Variable) × (slice_get s.variables number ≡ Some v) × (v.ty ≡ ty)
 
-  -- after the name of a local of a whole type
+  -- after the declarator of a local of a complete type
   with_local-gives : (name : List ℕ) (ty : Shape) (i : Inside) → NamesStructs (table_of i.known) ty → Knows i
       → (Agrees s i.known.context → IsWhole s.program ty) →
       Gives i (with_local name ty i) (IsVariable (length i.variables) ty × IsWhole s.program ty)
@@ -424,7 +424,7 @@ module _ (s : Setting) (laid_out : IsLaidOut s.program.model s.program.table) wh
       (locals_added-well base ds reported (names-longer (table_of so_far.inside.known) (table_of reported.inside.known) h.gives.longer base named)
       (h.gives.knows knows) fit.1) (λ after k. yields-on so_far reported after h k))
 
-  -- after the words of a declaration
+  -- after the specifiers of a declaration
   knowing-gives : (i : Inside) (k : Environment) → Leads s i.known k → DeclaresOn i.known k → NamedOn i.known k → Gives i (knowing k i) (Unit {0})
   knowing-gives i k leads on named = record {
     knows = λ is. record {
@@ -477,11 +477,11 @@ module _ (s : Setting) (laid_out : IsLaidOut s.program.model s.program.table) wh
 
   -- ---- cases
 
-  -- the cases of a `switch` by a value of a type
+  -- the cases of a `switch` on a value of a type
   abbrev HasCases : Shape → Switching → Type 0
   HasCases ty so_far = AreCases s.program.model ty (length so_far.reported.statements) so_far.cases
 
-  -- what a `switch` has, after what it had before
+  -- a `switch` after more items
   pub record Switches (ty : Shape) (so_far after : Switching) : Type 0 where
     pub reported : Yields so_far.reported after.reported
     pub cases : HasCases ty so_far → HasCases ty after
@@ -513,7 +513,7 @@ module _ (s : Setting) (laid_out : IsLaidOut s.program.model s.program.table) wh
             (new-case value so_far.cases new);
       }
 
-  -- a written case has the number that it says, modulo where the type doesn't hold it
+  -- the value of a `case` is converted to the type, modulo its size if needed
   constant_case-well : (ty : Shape) (at : Place) (so_far : Switching) (n : ℤ) → Knows so_far.reported.inside
       → IfFine (constant_case at so_far ty n) (Switches ty so_far)
   constant_case-well ty at so_far n knows =
@@ -537,7 +537,7 @@ module _ (s : Setting) (laid_out : IsLaidOut s.program.model s.program.table) wh
 
   -- ---- statements
 
-  -- the function around a statement has its result and its labels
+  -- the result and the labels of the function around a statement
   abbrev pub Fits : Where → Type 0
   Fits w = (w.returns ≡ s.returns) × (length w.labels ≤ s.labels)
 
@@ -570,7 +570,7 @@ module _ (s : Setting) (laid_out : IsLaidOut s.program.model s.program.table) wh
       weaker None h = tt
       weaker (Some n) h = omega (arith, h, fits.1)
 
-  -- the label that is met has the number of its name
+  -- the label that occurs has the number of its name
   met-below : (i : Inside) (number : Option ℕ) → IfSome number (λ n. n < s.labels) → is_first i number ≡ true → i.met < s.labels
   met-below i None h first = absurd cc
   met-below i (Some n) h first = subst (λ m. m < s.labels) (nat_same n i.met first) h

@@ -1,4 +1,4 @@
--- A function with its body, as contracts see it: for the function that sets bodies.
+-- A function with its body, as contracts describe it: for the function that sets bodies.
 use Rattle.std.proofs.Common.{◌≡◌, List, Some, map, sym, ap, ◌∙◌, Box, Vec, Global}
 use Rattle.cs_types.specs.Shape.{shape_of}
 use Rattle.cs_ast.specs.declared.raw.declaration.RawFunction.{RawFunction}

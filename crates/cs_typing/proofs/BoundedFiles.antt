@@ -69,7 +69,7 @@ few-numbers : (tokens : List Token) → length (numbers_in tokens) ≤ length to
 few-numbers [] = omega arith
 few-numbers (t ∷ ts) = let one = one-number t.kind (numbers_in ts) in let more = few-numbers ts in omega (arith, one, more)
 
--- as many constants as tokens at most
+-- there are at most as many constants as tokens
 few-constants : (tokens : List Token) → length (constants_in tokens) ≤ length tokens
 few-constants tokens = let all = few-numbers tokens in let each = keys-added int_eq [] (numbers_in tokens) in omega (arith, all, each)
 
@@ -84,7 +84,7 @@ placed-once defined (external_kind.Function s d) = by_test (is_of_library d.name
     by_test true = omega arith
     by_test false = omega arith
 
--- a part of a file has a token at least
+-- an external declaration has at least one token
 some-token : (kind : RawExternalKind) (rest : Kinds) → 1 + text_size rest ≤ text_size (external_text (external_of kind) rest)
 some-token (external_kind.Type s) rest = let e = size-specs (specs s) (punctuator_text punctuator.Semicolon rest) in omega (arith, e)
 some-token (external_kind.Typedef s names) rest =
@@ -120,7 +120,7 @@ few-placed defined (e ∷ es) rest =
     let more = few-placed defined es rest in
     omega (arith, one, parts, some, more)
 
--- as many functions as the file's text allows
+-- there are at most as many functions as the file's text allows
 few-functions : (file : List RawExternal) → length (order_of file) ≤ text_size (file_text (map external file))
 few-functions file =
     let defined : List ℕ → Bool = λ name. is_defined name file in
@@ -138,7 +138,7 @@ module _ (Is : Place → Type 0) (room : ℕ) where
   abbrev After : Kinds → Filed → Type 0
   After rest = FiledFits Is room (24 * text_size rest)
 
-  -- after words before declarators
+  -- after the specifiers before declarators
   words-fit : (f : Filed) (s : RawSpecs) (ty : Typing) (following : Kinds) → IsTyping f.known s ty → After (specs_text (specs s) following) f
       → After following (with_known ty.1 f)
   words-fit f s ty following g h =
@@ -146,7 +146,7 @@ module _ (Is : Place → Type 0) (room : ℕ) where
       let grown = grows-by f.known ty.1 (size_of (specs_text (specs s))) g in
       fits-known Is room f ty.1 _ _ (omega (arith, long, grown)) h
 
-  -- what stands after the words of a part of a file
+  -- the tokens after the specifiers of an external declaration
   abbrev after_words : RawExternalKind → Kinds → Kinds
   after_words (external_kind.Type s) rest = punctuator_text punctuator.Semicolon rest
   after_words (external_kind.Typedef s names) rest = with_commas declarator_text (map declarator names.items) (punctuator_text punctuator.Semicolon rest)
@@ -155,7 +155,7 @@ module _ (Is : Place → Type 0) (room : ℕ) where
   after_words (external_kind.Definition s d body) rest =
       head_text (head d) (punctuator_text punctuator.OpenBrace (items_text (items_list body.items.items) (punctuator_text punctuator.CloseBrace rest)))
 
-  -- a semicolon after
+  -- after a semicolon
   passed-semicolon : (v : Verdict Filed) (rest : Kinds) → IfFine v (After (punctuator_text punctuator.Semicolon rest)) → IfFine v (After rest)
   passed-semicolon v rest h = if_fine-weaker (After (punctuator_text punctuator.Semicolon rest)) (After rest) v h
       (λ g k. fits-less Is room g _ _ (omega arith) k)
@@ -177,7 +177,7 @@ module _ (Is : Place → Type 0) (room : ℕ) where
       function_added-fits Is room d (Some body) f base rest among.0 among.1
       (punctuator_text punctuator.OpenBrace (items_text (items_list body.items.items) (punctuator_text punctuator.CloseBrace rest))) refl h
 
-  -- the words of a part of a file are in its text
+  -- the specifiers of an external declaration are in its text
   words-first : (kind : RawExternalKind) (rest : Kinds)
       → text_size (specs_text (specs (specs_of kind)) (after_words kind rest)) ≤ text_size (external_text (external_of kind) rest)
   words-first (external_kind.Type s) rest = omega arith
@@ -204,7 +204,7 @@ module _ (Is : Place → Type 0) (room : ℕ) where
       lift-then (After following) (After []) (file_typed es) (external_typed e.place e.kind f) (external-fits e.place e.kind f following among.0 h)
       (λ g k. file-fits es g among.1 k)
 
--- the place of functions that aren't declared
+-- the position of functions that aren't declared
 abbrev blank_place : Place
 blank_place = record { file = 0; line = 1; column = 1 }
 
@@ -231,7 +231,7 @@ module _ (Is : Place → Type 0) (blank_is : Is blank_place) where
         nodes = (let e = blank-nodes (order_of file) in let few = few-functions file in omega (arith, e, few));
       }
 
--- a program whose places are in its files, and which has few nodes
+-- a program whose positions are in its files, with a bounded number of nodes
 abbrev IsBoundedProgram : TypedProgram → Type 0
 IsBoundedProgram p = ProgramStandsAmong (IsOfFiles (length p.files)) p × (program_nodes p < 2 ^ 28)
 

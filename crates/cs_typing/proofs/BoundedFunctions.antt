@@ -51,7 +51,7 @@ use Rattle.cs_typing.proofs.RepeatedNames.{once-then}
 
 -- ---- parameters
 
--- so many variables more
+-- this many variables more
 abbrev HasMore : Head → ℕ → Head → Type 0
 HasMore before more head = length head.variables ≡ length before.variables + more
 
@@ -72,7 +72,7 @@ parameters-more (p ∷ ps) before =
     if_fine-weaker (HasMore one (length ps)) (HasMore before (suc (length ps))) (parameters_after ps one) (parameters-more ps one)
     (λ head k. omega (arith, h, k)))
 
--- as many variables as the text of the parameters allows
+-- at most as many variables as the text of the parameters allows
 abbrev FewVariables : RawParameters → Head → Type 0
 FewVariables raw head = length head.variables ≤ suc (size_of (parameters_text (parameters raw)))
 
@@ -117,7 +117,7 @@ module _ (Is : Place → Type 0) (room : ℕ) where
 
   -- ---- bodies
 
-  -- the text of a body, or the semicolon in its place
+  -- the size of the body's text, or of the semicolon in its place, and what follows
   abbrev pub ending_length : Option RawBody → Kinds → ℕ
   ending_length None rest = text_size (punctuator_text punctuator.Semicolon rest)
   ending_length (Some body) rest =

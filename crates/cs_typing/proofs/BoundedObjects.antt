@@ -33,7 +33,7 @@ use Rattle.cs_statements.proofs.BoundedParts.{nodes_known, IsFirst, first-bounde
 use Rattle.cs_statements.proofs.BoundedTexts.{declarator_size}
 use Rattle.cs_typing.proofs.FilesSoFar.{changed-All}
 
--- the nodes of a list with one more, and of one of which a part is changed
+-- the nodes of a list with one more element, and of one with a changed element
 module _ {A : Type 0} (count : A → ℕ) where
   push-nodes : (xs : List A) (x : A) → all_nodes count (xs ++ x ∷ []) ≡ all_nodes count xs + count x
   push-nodes xs x = let e = all_nodes-append count xs (x ∷ []) in omega (arith, e)
@@ -49,7 +49,7 @@ module _ {A : Type 0} (count : A → ℕ) where
 abbrev pub filed_nodes : Filed → ℕ
 filed_nodes f = nodes_known f.known + all_nodes object_nodes f.globals + all_nodes routine_nodes f.routines
 
--- a file so far, where so many nodes more are allowed
+-- a file so far, within a bound that leaves room for so many more nodes
 pub record FiledFits (Is : Place → Type 0) (room more : ℕ) (f : Filed) : Type 0 where
   pub globals : All (ObjectStandsAmong Is) f.globals
   pub routines : All (RoutineStandsAmong Is) f.routines
@@ -59,7 +59,7 @@ module _ (Is : Place → Type 0) (room : ℕ) where
   pub fits-less : (f : Filed) (more less : ℕ) → less ≤ more → FiledFits Is room more f → FiledFits Is room less f
   fits-less f more less le h = record { globals = h.globals; routines = h.routines; nodes = (let k = h.nodes in omega (arith, le, k)) }
 
-  -- after what makes more known
+  -- after a part that makes more known
   pub fits-known : (f : Filed) (k : Environment) (more less : ℕ) → nodes_known k + less ≤ nodes_known f.known + more → FiledFits Is room more f
       → FiledFits Is room less (with_known k f)
   fits-known f k more less le h = record { globals = h.globals; routines = h.routines; nodes = (let n = h.nodes in omega (arith, le, n)) }

@@ -1,4 +1,4 @@
--- The numbers of tokens, of which a part is read: for the loop that collects them.
+-- The numbers of tokens of a list that is partly read: for the loop that collects them.
 use Rattle.std.proofs.Common.{◌≡◌, ℕ, ◌+◌, ◌<◌, ℤ, List, length, drop, get_or, sym, ap, ◌∙◌}
 use Rattle.std.proofs.lemmas.List.{at_drop_more}
 use Rattle.std.specs.Ordering.{int_eq}
@@ -6,7 +6,7 @@ use Rattle.indexmap.specs.IndexSet.{insert_all}
 use Rattle.cs_ast.specs.declared.token.Token.{Token}
 use Rattle.cs_typing.specs.Programs.{numbers_in, number_before}
 
--- the next token's number, if it has one, comes first
+-- the number of the next token, if it has one, comes first
 pub at_token : (keys whole : List ℤ) (tokens : List Token) (i : ℕ) (t : Token) → i < length tokens → t ≡ get_or tokens i t
     → insert_all int_eq keys (numbers_in (drop i tokens)) ≡ whole
     → insert_all int_eq keys (number_before t.kind (numbers_in (drop (i + 1) tokens))) ≡ whole

@@ -27,7 +27,7 @@ use Rattle.cs_statements.proofs.DeclarationsAfter.{DeclaresOn, same-on, on-self,
 use Rattle.cs_statements.proofs.SoundStatements.{IsLaidUnder, following}
 use Rattle.cs_typing.proofs.FilesSoFar.{with_parts, Kept, Adds, leads-following, known-adds}
 
--- where so many structs more are allowed, one less is after a new one, and as many after a token that makes none
+-- a property with room for a number of structs: a new struct takes one from the room, and a token without a new struct may
 module _ (P : ℕ → Environment → Type 0) (each : (left : ℕ) (name : List ℕ) (k : Environment) → P (suc left) k
     → P left (with_tagged_struct name k))
     (less : (left : ℕ) (k : Environment) → P (suc left) k → P left k) where
@@ -55,13 +55,13 @@ module _ (P : ℕ → Environment → Type 0) (each : (left : ℕ) (name : List 
   pub tags-keep : (tokens : List Token) (k : Environment) → P (length tokens) k → P 0 (tags_declared tokens k)
   tags-keep tokens k h = tokens-keep None tokens (record { known = k; enums = [] }) h
 
--- the structs stay laid out
+-- the structs keep their layouts
 pub tags-sound : (model : DataModel) (tokens : List Token) (k : Environment) → IsLaidUnder model k → IsLaidUnder model (tags_declared tokens k)
 tags-sound model tokens k h =
     tags-keep (λ _ m. IsLaidUnder model m)
     (λ left name m laid. following model m (with_tagged_struct name m) laid (with_tagged_struct-GoesOn m name laid.0)) (λ left m laid. laid) tokens k h
 
--- there are as many structs more as tokens at most
+-- at most one struct is added for each token
 one-more : (name : List ℕ) (k : Environment) → nodes_known (with_tagged_struct name k) ≤ nodes_known k + 1
 one-more name k = let e = all_nodes-append struct_nodes (table_of k) (empty_struct name ∷ []) in omega (arith, e)
 
@@ -72,7 +72,7 @@ tags-few tokens k =
     omega (arith, all)
 
 module _ (p : TypedProgram) (f : Filed) where
-  -- what is known grows by structs alone
+  -- only the known structs grow
   abbrev Grown : Environment → Type 0
   Grown k = Leads (outside (with_parts p f)) f.known k × (DeclaresOn f.known k × NamedOn f.known k)
 
@@ -84,7 +84,7 @@ module _ (p : TypedProgram) (f : Filed) where
         (on-trans f.known k m h.1.0 (same-on k m refl refl), named_on-trans f.known k m h.1.1 (tagged_struct-named name k h.1.1.known)),
       )
 
-  -- what is declared so far stays there
+  -- what is declared so far remains
   pub tags-add : (tokens : List Token) → Kept p f → Adds p f (with_known (tags_declared tokens f.known) f)
   tags-add tokens kept =
       let k = tags_declared tokens f.known in

@@ -44,7 +44,7 @@ found-start first all number x h is = ap (λ xs. slice_get xs number) h.1 ∙ fo
 pub both-All : {A : Type 0} (P Q : A → Type 0) (xs : List A) → All P xs → All Q xs → All (λ x. P x × Q x) xs
 both-All P Q xs h k = λ i d within. (h i d within, k i d within)
 
--- a list of which one part is changed
+-- a list with one changed element
 module _ {A : Type 0} (change : A → A) where
   pub changed-length : (number : ℕ) (xs : List A) → length (changed number change xs) ≡ length xs
   changed-length number [] = refl
@@ -63,7 +63,7 @@ module _ {A : Type 0} (change : A → A) where
   changed-other (suc number) zero (y ∷ xs) apart = refl
   changed-other (suc number) (suc other) (y ∷ xs) apart = changed-other number other xs (λ is. apart (ap suc is))
 
-  -- what stands there then is what stood there, or the changed part
+  -- the element at an index afterwards is the one before, or the changed one
   pub changed-found : (Q : A → A → Type 0) (number other : ℕ) (xs : List A) (x : A) → ((y : A) → Q y y)
       → ((y : A) → slice_get xs number ≡ Some y → Q (change y) y) → slice_get xs other ≡ Some x
       → (y : A) × (slice_get (changed number change xs) other ≡ Some y) × Q y x
@@ -83,7 +83,7 @@ module _ {A : Type 0} (change : A → A) where
       by_recursion zero (y ∷ ys) still' h = (still' y refl h.0, h.1)
       by_recursion (suc n) (y ∷ ys) still' h = (h.0, by_recursion n ys still' h.1)
 
--- ---- what names stand for
+-- ---- the meanings of names
 
 newest-held : (P : Meaning → Type 0) (name : List ℕ) (ds : List Declaration) → AllByRecursion (λ (d : Declaration). P d.meaning) ds
     → IfSome (newest name ds) P
@@ -98,7 +98,7 @@ newest-held P name (d ∷ ds) h = later (newest name ds) (newest-held P name ds 
     later (Some m) held = held
     later None held = here (pointwise nat_eq d.name name)
 
--- a name stands for one of the meanings that are declared
+-- a name has one of the meanings that are declared
 pub newest-All : (P : Meaning → Type 0) (name : List ℕ) (ds : List Declaration) → All (λ (d : Declaration). P d.meaning) ds → IfSome (newest name ds) P
 newest-All P name ds h = newest-held P name ds (recursion_from_All (λ (d : Declaration). P d.meaning) ds h)
 
@@ -106,7 +106,7 @@ newest-All P name ds h = newest-held P name ds (recursion_from_All (λ (d : Decl
 abbrev pub IsOther : List ℕ → Declaration → Type 0
 IsOther name d = pointwise nat_eq d.name name ≡ false
 
--- a name that isn't in scope is declared nowhere
+-- a name that isn't in scope has no declaration
 pub newest-none : (name : List ℕ) (ds : List Declaration) → newest name ds ≡ None → All (IsOther name) ds
 newest-none name ds none = All-from_recursion (IsOther name) ds (by_recursion ds none)
   where
@@ -123,7 +123,7 @@ newest-none name ds none = All-from_recursion (IsOther name) ds (by_recursion ds
         later (Some m) found gone others = absurd (none-some m (sym gone))
         later None found gone others = (here d.meaning (pointwise nat_eq d.name name) gone, others found)
 
--- a name that stands for something does so after further declarations
+-- a name that has a meaning still has one after further declarations
 pub newest-start : (name : List ℕ) (first rest : List Declaration) → is_some (newest name first) ≡ true → is_some (newest name (first ++ rest)) ≡ true
 newest-start name [] rest h = absurd cc
 newest-start name (d ∷ first) rest h = later (newest name first) (newest name (first ++ rest)) h (newest-start name first rest)
@@ -144,7 +144,7 @@ newest-start name (d ∷ first) rest h = later (newest name first) (newest name 
     later (Some m) p is goes = first_one p (goes refl)
     later None p is goes = following p is
 
--- a function has its number by its name
+-- the function has the number of its name
 abbrev pub IsNumberOf : List (List ℕ) → List ℕ → Callee → Type 0
 IsNumberOf order name Malloc = Unit {0}
 IsNumberOf order name Calloc = Unit {0}
@@ -165,7 +165,7 @@ plain-number order name (Constant value) h = tt
 plain-number order name (Global number ty) h = tt
 plain-number order name (Local number ty) h = tt
 
--- what names stand for outside of functions is there inside of each
+-- what names denote outside of functions exists inside of each
 pub there-inside : (s : Setting) (m : Meaning) → IsThere (outside s.program) m → IsThere s m
 there-inside s (Typedef ty) h = tt
 there-inside s (Constant value) h = h
@@ -175,7 +175,7 @@ there-inside s (Function f) h = h
 
 -- ---- files so far, in a program
 
--- the variables of a function's head
+-- the parameters of a function are among its variables
 abbrev pub IsCounted : Routine → Type 0
 IsCounted r = r.parameters ≤ length r.variables
 
@@ -185,7 +185,7 @@ pub record TypesSoFar (f : Filed) : Type 0 where
   pub globals : All (λ (g : FileObject). NamesStructs (table_of f.known) g.ty) f.globals
   pub routines : All (HasNamedTypes (table_of f.known)) f.routines
 
--- they do so after what changes no object and no function
+-- they still do after a part that changes no object and no function
 types-following : (f : Filed) (k : Environment) → TypesSoFar f → length (table_of f.known) ≤ length (table_of k) → KnownTypesAreNamed k.context
     → TypesSoFar (with_known k f)
 types-following f k types longer named = record {
@@ -199,7 +199,7 @@ module _ (p : TypedProgram) where
   abbrev pub with_parts : Filed → TypedProgram
   with_parts f = record p { globals = f.globals; routines = f.routines }
 
-  -- what is declared so far is there, each function at its number
+  -- what is declared so far exists, each function at its number
   pub record Kept (f : Filed) : Type 0 where
     pub model : model_of f.known ≡ p.model
     pub outer : f.known.outer ≡ 0
@@ -252,14 +252,14 @@ module _ (p : TypedProgram) where
     types = record { program = has.types; variables = All-nil (λ (v : Variable). NamesStructs p.table v.ty); returns = tt };
   }
 
-  -- the object with a number has a type
+  -- the object with this number has this type
   abbrev pub HasGlobal : Filed → ℕ → Shape → Type 0
   HasGlobal f number ty = (g : FileObject) × (slice_get f.globals number ≡ Some g) × (g.ty ≡ ty)
 
   abbrev pub HasRoutine : Filed → ℕ → Routine → Type 0
   HasRoutine f number r = (o : Routine) × (slice_get f.routines number ≡ Some o) × (o.returns ≡ r.returns) × (parameter_types o ≡ parameter_types r)
 
-  -- what is there stays, where objects and functions keep their types
+  -- what exists remains, if objects and functions keep their types
   pub there-kept : (f g : Filed) → ((number : ℕ) (x : FileObject) → slice_get f.globals number ≡ Some x → HasGlobal g number x.ty)
       → ((number : ℕ) (r : Routine) → slice_get f.routines number ≡ Some r → HasRoutine g number r)
       → (m : Meaning) → IsThere (outside (with_parts f)) m → IsThere (outside (with_parts g)) m
@@ -281,7 +281,7 @@ module _ (p : TypedProgram) where
       All-weaker (λ (d : Declaration). IsThere (outside (with_parts f)) d.meaning) (λ (d : Declaration). IsThere (outside (with_parts g)) d.meaning)
       (λ d h. there-kept f g globals routines d.meaning h) ds all
 
-  -- what is known after words, typedefs and parameters
+  -- what is known after specifiers, typedefs and parameters
   pub record KnownAfter (f : Filed) (k : Environment) : Type 0 where
     pub model : model_of k ≡ model_of f.known
     pub literals : k.literals ≡ f.known.literals

@@ -13,7 +13,7 @@ use Rattle.cs_file_scope.specs.Objects.{Filed}
 use Rattle.cs_file_scope.specs.Functions.{may_be_function}
 use Rattle.cs_typing.specs.Functions.{function_typed, function_added, resulted}
 
--- something after a reference is there if the reference is
+-- a mapped option is there exactly if the option is
 pub still_some : {A B : Type 0} (f : A → B) (o : Option A) → is_some o ≡ is_some (option_map f o)
 still_some f None = refl
 still_some f (Some x) = refl

@@ -14,11 +14,11 @@ use Rattle.cs_ast.specs.declared.raw.external.RawExternal.{RawExternal}
 use Rattle.cs_file_scope.specs.Functions.{number_in}
 use Rattle.cs_file_scope.specs.Order.{is_of_library, defines, is_defined, placed, all_placed, order_of}
 
--- the function has a place in the order
+-- the function has an index in the order
 abbrev pub IsOrdered : List (List ℕ) → List ℕ → Type 0
 IsOrdered order name = number_in order name < length order
 
--- it has one, or is the library's
+-- it has an index, or is one of the library
 abbrev pub IsPlaced : List (List ℕ) → List ℕ → Type 0
 IsPlaced order name = (is_of_library name ≡ true) ⊎ IsOrdered order name
 
@@ -33,7 +33,7 @@ abbrev pub FileIsPlaced : List (List ℕ) → List RawExternal → Type 0
 FileIsPlaced order [] = Unit {0}
 FileIsPlaced order (e ∷ es) = ExternalIsPlaced order e.kind × FileIsPlaced order es
 
--- the name stands among some
+-- the name is one of these
 abbrev IsAmong : List ℕ → List (List ℕ) → Type 0
 IsAmong name names = list_any (pointwise nat_eq name) names ≡ true
 
@@ -117,7 +117,7 @@ all-added name names (key ∷ more) h =
 
 -- ---- the functions of a file
 
--- a function that is defined is placed
+-- a function that is defined has an index
 defined-placed : (defined : List ℕ → Bool) (name : List ℕ) (file : List RawExternal) → is_defined name file ≡ true
     → IsAmong name (all_placed defined file)
 defined-placed defined name [] h = absurd cc
@@ -165,7 +165,7 @@ module _ (order : List (List ℕ)) (defined : List ℕ → Bool) (bodies : (name
         ∙ or-second (list_any (pointwise nat_eq name) (option_to_list (placed defined e.kind))) _ h)),
   )
 
--- the functions of a file are placed in its order
+-- the functions of a file have indices in its order
 pub order_of-placed : (file : List RawExternal) → FileIsPlaced (order_of file) file
 order_of-placed file =
     let defined : List ℕ → Bool = λ name. is_defined name file in

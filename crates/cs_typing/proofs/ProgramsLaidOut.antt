@@ -28,7 +28,7 @@ pub laid_out : (model : DataModel) (files : List (List ℕ)) (tokens : List Toke
     → typed model files tokens file ≡ Fine p → IsLaidOut p.model p.table
 laid_out model files tokens file p reported = IfFine-at (typed model files tokens file) ProgramIsLaidOut p reported (typed_laid model files tokens file)
 
--- the program that is made of a typed file
+-- the program made from a typed file
 pub made : (model : DataModel) (files names : List (List ℕ)) (tokens : List Token) (file : List RawExternal) (f : Filed) (constants : List ℤ)
     → typed_file model tokens file ≡ Fine f → names ≡ files → constants ≡ constants_in tokens
     → typed model files tokens file

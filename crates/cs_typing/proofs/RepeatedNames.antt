@@ -1,4 +1,4 @@
--- What holds of a function also holds of it if no name is declared twice among its parameters: for the laws of files.
+-- What holds for a function also holds for it if no name is declared twice among its parameters: for the laws of files.
 use Rattle.std.proofs.Common.{Option, Some, None}
 use Rattle.cs_ast.specs.declared.place.Place.{Place}
 use Rattle.cs_declarations.proofs.FineVerdicts as fine

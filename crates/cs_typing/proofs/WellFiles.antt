@@ -93,11 +93,11 @@ module _ (p : TypedProgram) (laid : IsLaidOut p.model p.table) where
       (file_typed-adds es g h.kept (subst (λ order. FileIsPlaced order es) (sym h.order) placed.1) fit.1)
       (λ k more. adds-trans p f g k h more))
 
-  -- a function that is not declared yet has no types of structs
+  -- a function that isn't declared yet has no types of structs
   blank-named : (table : List StructType) (name : List ℕ) → HasNamedTypes table (blank name)
   blank-named table name = record { returns = tt; variables = All-nil (λ (v : Variable). NamesStructs table v.ty) }
 
-  -- before a file the library's functions are known, and its own are blank
+  -- before a file the functions of the library are known, and its own are blank
   beginning-kept : (order : List (List ℕ)) → Kept p (beginning p.model order)
   beginning-kept order = record {
     model = refl;
@@ -136,7 +136,7 @@ module _ (p : TypedProgram) (laid : IsLaidOut p.model p.table) where
     routines = All-map (IsWellRoutine p) blank order (λ i name within. blank-well _);
   }
 
--- the program that a file is
+-- the program of a typed file is well formed
 file-well : (model : DataModel) (files : List (List ℕ)) (tokens : List Token) (file : List RawExternal) (f : Filed)
     → typed_file model tokens file ≡ Fine f
     → IsFileTree files tokens file → IsWellFormed (program_of model files tokens f)

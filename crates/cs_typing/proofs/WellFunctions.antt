@@ -56,12 +56,12 @@ use Rattle.cs_typing.proofs.FilesSoFar.{adds-trans, HasGlobal, HasRoutine, all-t
 use Rattle.cs_typing.proofs.OrderedNames.{IsOrdered, IsPlaced, number-names}
 use Rattle.cs_typing.proofs.RepeatedNames.{once-then}
 
--- what holds of a value for each of some
+-- a property of a value that holds for each element of a type
 for-each : {A : Type 0} (Q : Type 0) (P : Q → A → Type 0) (v : Verdict A) → ((q : Q) → IfFine v (P q)) → IfFine v (λ a. (q : Q) → P q a)
 for-each Q P (Fine a) h = h
 for-each Q P (Fault code place) h = tt
 
--- the value of a verdict is its value
+-- a result that is a value equals that value
 pub itself : {A : Type 0} (v : Verdict A) → IfFine v (λ a. v ≡ Fine a)
 itself (Fine a) = refl
 itself (Fault code place) = tt
@@ -74,7 +74,7 @@ same_types-true (ty ∷ types) (other ∷ others) h =
     let both = both_true (same_shape ty other) (same_types types others) h in
     ap (λ t. t ∷ types) (same_shape-true ty other both.0) ∙ ap (λ ts. other ∷ ts) (same_types-true types others both.1)
 
--- a result that a function may have is a scalar or none
+-- a type that a function may return is a scalar or `void`
 result-is : (ty : Shape) → is_result ty ≡ true → IsResult ty
 result-is void h = inl refl
 result-is (integer kind) h = inr (inl (kind, refl))
@@ -101,12 +101,12 @@ library-declared model name h =
     by_way (inl is) = by_first (or_cases (pointwise nat_eq name (codes "malloc")) (pointwise nat_eq name (codes "calloc")) is)
     by_way (inr is) = named (codes "free") is refl
 
--- the types of as many variables as there are
+-- the types of the first variables, if they are the parameters
 types-first : (parameters : List Variable) (variables : List Variable) → Starts parameters variables
     → types_of (take (length parameters) variables) ≡ types_of parameters
 types-first parameters variables h = ap types_of (start-take parameters variables h)
 
--- a function has as many parameters as types
+-- a function has as many parameters as parameter types
 count-is : (r : Routine) (parameters : List Variable) → IsCounted r → parameter_types r ≡ types_of parameters → r.parameters ≡ length parameters
 count-is r parameters counted is =
     let taken = length-take-le r.parameters r.variables counted in
@@ -121,7 +121,7 @@ BodyHasConstants (Some body) = ItemsHaveConstants body.items.items
 module _ (p : TypedProgram) (laid_out : IsLaidOut p.model p.table) where
   -- ---- heads
 
-  -- what the parameters of a function make known
+  -- what is known after the parameters of a function
   record IsHead (f : Filed) (head : Head) : Type 0 where
     on : DeclaresOn (entered f.known) head.known
     written : length head.written ≡ length head.variables
@@ -144,7 +144,7 @@ module _ (p : TypedProgram) (laid_out : IsLaidOut p.model p.table) where
       (for-each Around IsLed v (λ s. parameters_typed-leads s.0 (entered f.known) raw (kept.model ∙ sym s.1))))
       (λ head h. record { on = h.0.0.known; written = h.0.0.written; scalars = h.0.0.scalars; named = h.0.1; leads = λ s same are. h.1 (s, same) are })
 
-  -- the declarations outside of the parameters are those before them
+  -- the declarations outside of the parameters are those before the function
   same-outside : (f : Filed) (head : Head) → IsHead f head → declarations_of (outside_of f head).known ≡ declarations_of f.known
   same-outside f head h = start-take (declarations_of f.known) (declarations_of head.known) (h.on.more, h.on.declarations)
 
@@ -170,7 +170,7 @@ module _ (p : TypedProgram) (laid_out : IsLaidOut p.model p.table) where
 
   -- ---- names
 
-  -- a function's name isn't declared yet, or is that of a function with this result
+  -- the name of a function isn't declared yet, or it is that of a function with this result
   abbrev MayStand : Filed → RawFunction → Shape → Option Meaning → Type 0
   MayStand f d result None = All (IsOther d.name) (declarations_of f.known) × IsOrdered f.order d.name
   MayStand f d result (Some (Function before)) = (before.result ≡ result) × IsFunction (with_parts p f) before.callee before
@@ -190,7 +190,7 @@ module _ (p : TypedProgram) (laid_out : IsLaidOut p.model p.table) where
   may-stand f d result before with_body (Some (Global number ty)) may there new = absurd cc
   may-stand f d result before with_body (Some (Local number ty)) may there new = absurd cc
 
-  -- a name that isn't declared in a file is no library function's, so that it has its place in the order
+  -- a name that isn't declared in a file isn't that of a library function, so it has an index in the order
   new-name : (f : Filed) (name : List ℕ) → Kept p f → IsPlaced f.order name → meaning_here name f.known ≡ None
       → All (IsOther name) (declarations_of f.known) × IsOrdered f.order name
   new-name f name kept placed none = (newest-none name (declarations_of f.known) whole, by_way placed)
@@ -208,7 +208,7 @@ module _ (p : TypedProgram) (laid_out : IsLaidOut p.model p.table) where
 
   -- ---- declared functions
 
-  -- scalars are whole
+  -- scalars are complete
   scalar-whole : (ty : Shape) → IsScalar ty → IsWhole p ty
   scalar-whole ty (inl kind) = subst (IsWhole p) (sym kind.1) refl
   scalar-whole ty (inr target) = subst (IsWhole p) (sym target.1) refl
@@ -217,7 +217,7 @@ module _ (p : TypedProgram) (laid_out : IsLaidOut p.model p.table) where
   whole-scalars variables h = All-weaker (λ (v : Variable). IsScalar v.ty) (λ (v : Variable). IsWhole p v.ty) (λ v scalar. scalar-whole v.ty scalar)
       variables h
 
-  -- the function is there, with its types
+  -- the function exists, with its types
   abbrev IsRouted : Filed → Shape → List Variable → Callee → Type 0
   IsRouted f result parameters (Numbered number) = (r : Routine) × (slice_get f.routines number ≡ Some r) × (r.returns ≡ result)
       × (parameter_types r ≡ types_of parameters)
@@ -231,7 +231,7 @@ module _ (p : TypedProgram) (laid_out : IsLaidOut p.model p.table) where
   same-globals : (f : Filed) (number : ℕ) (x : _) → slice_get f.globals number ≡ Some x → HasGlobal p f number x.ty
   same-globals f number x is = (x, is, refl)
 
-  -- a new function, at its place in the order
+  -- a new function, at its index in the order
   new_function-adds : (f : Filed) (d : RawFunction) (result : Shape) (parameters : List Variable) (written : List Bool)
       → NamesStructs (table_of f.known) result → VariablesName (table_of f.known) parameters → Kept p f →
       All (IsOther d.name) (declarations_of f.known) → IsOrdered f.order d.name → IsResult result → length written ≡ length parameters
@@ -368,7 +368,7 @@ module _ (p : TypedProgram) (laid_out : IsLaidOut p.model p.table) where
 
   -- ---- bodies
 
-  -- a function, in whose scope its parameters are declared, with its body
+  -- a function with its body, in whose scope its parameters are declared
   bodied-adds : (f g : Filed) (d : RawFunction) (body : RawBody) (result : Shape) (head : Head) (number : ℕ) (r : Routine) (reported : TypedStatements)
       → Adds p f g → length (table_of head.known) ≤ length (table_of g.known) → IsHead f head →
       slice_get g.routines number ≡ Some r → r.returns ≡ result → parameter_types r ≡ types_of head.variables → ItemsHaveConstants body.items.items
@@ -516,7 +516,7 @@ module _ (p : TypedProgram) (laid_out : IsLaidOut p.model p.table) where
           (λ z there. subst (λ (w : Routine). IsSame (change w) w) (sym (is-routine z there)) (refl, same-types)) at in
           (y.0, y.1, y.2.0, y.2.1)
 
-      -- what is declared at the beginning of the body is there
+      -- what is declared at the beginning of the body exists
       there-begun : Has p after → AreThere s laid_out begun
       there-begun has =
           let There : Declaration → Type 0 = λ x. IsThere s x.meaning in

@@ -45,7 +45,7 @@ last-found [] x = refl
 last-found (y ∷ xs) x = last-found xs x
 
 module _ (p : TypedProgram) (laid_out : IsLaidOut p.model p.table) where
-  -- what the declaration of an object adds, which has its type
+  -- the declaration of an object adds it, with its type
   abbrev AddsObject : Filed → Shape → Object → Type 0
   AddsObject f ty o = Adds p f o.filed × HasGlobal p o.filed o.number ty
 
@@ -169,7 +169,7 @@ module _ (p : TypedProgram) (laid_out : IsLaidOut p.model p.table) where
         (there.0, there.1, there.2 ∙ has.2),
       )
 
-  -- what an initializer gives, where the program has what is known before it
+  -- the result for an initializer, if the program has what is known before it
   record IsReading (f : Filed) (ty : Shape) (r : Reading) : Type 0 where
     well : Agrees (outside p) f.known.context × IsWhole p ty × NamesStructs p.table ty → AreFirst p r.1 → IsWellInitial (outside p) ty r.0
     begins : GoesOnFrom f.known.literals r
@@ -191,7 +191,7 @@ module _ (p : TypedProgram) (laid_out : IsLaidOut p.model p.table) where
       (initial-constant c value.place f.known.literals ty value.initial)))
       (λ r h. record { well = h.0; begins = h.1.0; constant = h.1.1 })
 
-  -- an object with what it holds at first
+  -- an object with its initial value
   with_initial-adds : (f : Filed) (number : ℕ) (ty : Shape) (r : Reading) → Kept p f → HasGlobal p f number ty → IsReading f ty r
       → IfFine (with_initial number f r) (Adds p f)
   with_initial-adds f number ty r kept object h = record {

@@ -1,4 +1,4 @@
--- The sizes of types in a laid-out table: for the contracts of `size_of` and `is_small`.
+-- The sizes of types, if the structs of the table have layouts: for the contracts of `size_of` and `is_small`.
 use Rattle.std.proofs.Common.{◌≡◌, arith, ℕ, zero, suc, ◌*◌, ◌^◌, ◌≤◌, List, Option, Some, None, refl, sym, ap, ◌∙◌, subst}
 use Rattle.std.specs.Prelude.{slice_get, IfSome, nat_lt, if◌then◌else◌}
 use Rattle.std.proofs.lemmas.Bool.Decides.{nat_tests}
@@ -19,7 +19,7 @@ no_layout model table number zero none = refl
 no_layout model table number (suc depth) none =
     ap (option_and_then (λ ms. option_map (λ ls. padded (side_by_side 0 ls)) (member_layouts (layout_with model (struct_layout model table depth)) ms))) none
 
--- a struct of a table that is laid out is small
+-- a struct is small, if the structs of the table have layouts
 pub struct_is_small : (model : DataModel) (table : List StructType) (number : ℕ) → IsLaidOut model table → HasSmallSizes model table (struct number)
 struct_is_small model table number laid = by_entry (slice_get table number) refl
   where
@@ -36,7 +36,7 @@ struct_is_small model table number laid = by_entry (slice_get table number) refl
     by_entry (Some s) e = by_members s e s.members refl
     by_entry None e = none (ap (option_and_then (λ (x : StructType). x.members)) e)
 
--- an array is as small as its elements are together
+-- an array is small if its elements together are
 pub array_is_small : (model : DataModel) (table : List StructType) (element : Shape) (count : ℕ) (bytes : Option ℕ)
     → bytes ≡ option_map (λ (layout : Layout). layout.size) (layout_of model table element) → IfSome bytes (λ b. count * b ≤ 2 ^ 40)
     → IsSmall model table (array element count)
@@ -48,7 +48,7 @@ array_is_small model table element count bytes is small =
     by_layout (Some layout) h = h
     by_layout None h = tt
 
--- the scalar at an offset of so many characters
+-- the scalar at an offset of an array of characters
 pub char_at : (model : DataModel) (table : List StructType) (count offset : ℕ)
     → leaf_of model table (array (integer Char) count) offset ≡ (if nat_lt offset count then Some (integer Char) else None)
 char_at model table count offset = at_index count offset

@@ -30,13 +30,13 @@ use Rattle.cs_well_formed.specs.Laws.{TargetNames}
 use Rattle.cs_well_formed.proofs.Structs.{found-at, AreNamed, each-named}
 use Rattle.cs_well_formed.proofs.Conversions.{converted-well}
 
--- well-formed values, as many as there are types
+-- one well-formed value for each type
 abbrev pub AreGiven : Setting → List Shape → TypedList → Type 0
 AreGiven s [] NoMore = Unit {0}
 AreGiven s (ty ∷ types) (Further e others) = IsWell s e × IsValue e × AreGiven s types others
 AreGiven s types values = ⊥
 
--- well-formed values of these types
+-- well-formed values of these types, one for each
 abbrev AreTaken : Setting → List Shape → TypedList → Type 0
 AreTaken s types values = AreWell s values × AreValuesOf values types
 
@@ -47,7 +47,7 @@ before-taken s at ty types (Fine e) (Fault code place) h k = tt
 before-taken s at ty types (Fault code place) (Fine others) h k = tt
 before-taken s at ty types (Fault code place) (Fault other there) h k = tt
 
--- the values of arguments, each converted to the type of its parameter
+-- each argument is converted to the type of its parameter
 converted_list-taken : (s : Setting) (model : DataModel) (at : Place) (types : List Shape) (values : TypedList) → AreNamed s.program.table types
     → AreGiven s types values → IfFine (converted_list model at types values) (AreTaken s types)
 converted_list-taken s model at [] NoMore names given = (tt, tt)
@@ -104,7 +104,7 @@ pub parameters_of-named : (p : TypedProgram) → TypesAreNamed p → (function :
 parameters_of-named p types None is = tt
 parameters_of-named p types (Some f) is = parameters-named p types f.callee f is
 
--- a call of which its place says nothing has an argument for each parameter
+-- a call without a type error has an argument for each parameter
 call-counts : (target : Option Shape) (count : ℕ) (f : Signature) → call_fault target count f ≡ None → length f.parameters ≡ count
 unfolding call_fault
 call-counts target count f none = by_test (eqb (length f.parameters) count) refl none
@@ -115,7 +115,7 @@ call-counts target count f none = by_test (eqb (length f.parameters) count) refl
     by_test true h e = eqb-true (length f.parameters) count h
     by_test false h e = absurd cc
 
--- a call of a function with its arguments
+-- a call of a function with its arguments is well formed
 pub call-well : (s : Setting) (c : Context) (at : Place) (target : Option Shape) (function : Option Signature) (count : ℕ) (v : Verdict Typed)
     (fault : Option TypeCode) (values : Verdict TypedList) → TargetNames s target → TypesAreNamed s.program →
     IfSome function (λ f. IsFunction s.program f.callee f)

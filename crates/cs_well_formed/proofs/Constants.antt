@@ -24,7 +24,7 @@ use Rattle.cs_well_formed.specs.Expressions.{Setting, IsWell, IsWellForm}
 use Rattle.cs_well_formed.proofs.Verdicts.{IfFine, both_true}
 use Rattle.cs_well_formed.proofs.Numbers.{small-InRange}
 
--- an option that is there
+-- if the mapped option is there, the option is too
 option_map-some : {A B : Type 0} (f : A → B) (o : Option A) (y : B) → option_map f o ≡ Some y → (x : A) × (o ≡ Some x) × (f x ≡ y)
 option_map-some f (Some x) y h = (x, refl, cc)
 option_map-some f None y h = absurd cc
@@ -69,7 +69,7 @@ module _ (model : DataModel) (ty : IntType) where
       from_test : (a b : ℤ) → int_le a b ≡ true → a ≤ℤ b
       from_test a b t = grind (arith, ints)
 
-  -- a number divided by a power of two comes nearer to 0, or stays -1
+  -- a number divided by a power of two is no further from 0, or remains -1
   floor-between : (a : ℤ) (n : ℕ) (low high : ℤ) → low ≤ℤ a → a ≤ℤ high → low ≤ℤ pos 0 → pos 0 ≤ℤ high
       → (low ≤ℤ floor_div a n) × (floor_div a n ≤ℤ high)
   floor-between (pos a) n low high l h l' h' = (omega (arith, ints), omega (arith, ints))
@@ -106,7 +106,7 @@ module _ (model : DataModel) (ty : IntType) where
   truth-is : (t : Bool) (n : ℤ) → Some (truth t) ≡ Some n → InRange model ty n
   truth-is t n h = let is : truth t ≡ n = cc in subst (InRange model ty) is (truth-InRange t)
 
-  -- a number of a type that is this one
+  -- a number in the range of a type is in the range of an equal type
   moved-InRange : (other : Shape) (n : ℤ) → other ≡ integer ty → ((kind : IntType) × (other ≡ integer kind) × InRange model kind n)
       → InRange model ty n
   moved-InRange other n is held = let same : held.0 ≡ ty = cc in subst (λ k. InRange model k n) same held.2
@@ -124,7 +124,7 @@ module _ (model : DataModel) (ty : IntType) where
 
 module _ (s : Setting) where
   mutual
-    -- the number of an expression is one of its type
+    -- the number of a well-formed expression is in the range of its type
     pub number_in-well : (needed : Bool) (e : Typed) (n : ℤ) → IsWell s e → number_in s.program.model needed e ≡ Some n
         → IsWellForm s (type_of e) (Number n)
     number_in-well needed (Of at (integer ty) form) n well h = (ty, refl, form_number-InRange needed form ty n well h)
@@ -175,7 +175,7 @@ module _ (s : Setting) where
   constant_at-well at ty (Some n) held = held n refl
   constant_at-well at ty None held = tt
 
-  -- an expression for its purpose
+  -- a well-formed expression, finished for its purpose, is well formed
   pub finished-well : (model : DataModel) (purpose : Purpose) (e : Typed) → model ≡ s.program.model → IsWell s e
       → IfFine (finished model purpose e) (IsWell s)
   unfolding finished

@@ -31,7 +31,7 @@ either-true false b h = inr h
 abbrev IsGiven : Setting → Shape → Typed → Type 0
 IsGiven s ty e = IsWell s e × IsValueOf e ty
 
--- two values of one scalar type
+-- two well-formed values of one scalar type
 pub record AreMet (s : Setting) (pair : Pair) : Type 0 where
   pub left : IsWell s pair.left
   pub right : IsWell s pair.right
@@ -123,7 +123,7 @@ module _ (s : Setting) (model : DataModel) (at : Place) where
       (λ h. pair-met (Of at (pointer void) (Convert left)) right u (w, v.0, inr (refl, (t, v.1))) (refl, ap pointer (sym (void-true u h))) w' v')
       (λ _. tt)))))
 
-  -- two values in one type
+  -- two values converted to their common type
   pub met-well : (left right : Typed) (t u : Shape) → Names t → Names u → IsWell s left → IsValueOf left t → IsWell s right → IsValueOf right u
       → IfFine (met model at left right t u) (AreMet s)
   unfolding met

@@ -28,7 +28,7 @@ use Rattle.cs_well_formed.proofs.Conversions.{converted-well}
 use Rattle.cs_well_formed.proofs.Operators.{tested-well}
 use Rattle.cs_well_formed.proofs.Typing.{IsWellValue, done-well, value_in-well, operand_in-well, formed-well}
 
--- an expression that is run, after literals
+-- an expression that is evaluated, with the literals before it
 module _ (s : Setting) (c : Context) (literals : Literals) (e : RawExpr) (h : IsTyped s c literals e.kind.value) where
   run-well : (target : Option Shape) → TargetNames s target → IfFine (formed c Run literals target e.place e.kind.value) (IsWell s)
   run-well target names = formed-well s c h.agrees Run literals target names e.place e.kind.value h.constants h.texts
@@ -37,12 +37,12 @@ module _ (s : Setting) (c : Context) (literals : Literals) (e : RawExpr) (h : Is
       → IfFine (operand_in c Run (formed c Run literals target e.place e.kind.value)) (IsWellValue s)
   value-well target names = operand_in-well s c h.agrees Run _ (run-well target names)
 
-  -- one that has to have a value
+  -- an expression that must have a value
   pub operand_of-well : (target : Option Shape) → TargetNames s target → IfFine (operand_of c literals target e) (IsWellValue s)
   unfolding operand_of
   operand_of-well target names = value-well target names
 
-  -- one whose value goes to a type
+  -- an expression whose value is converted to a type as if by assignment
   pub assigned_value-well : (at : Place) (target : Shape) → NamesStructs s.program.table target
       → IfFine (assigned_value c literals at target e) (λ v. IsWell s v × IsValueOf v target)
   unfolding assigned_value
@@ -50,29 +50,29 @@ module _ (s : Setting) (c : Context) (literals : Literals) (e : RawExpr) (h : Is
       lift-then (IsWellValue s) (λ v. IsWell s v × IsValueOf v target) (λ v. converted c.model at v target (type_of v)) _ (value-well (Some target) names)
       (λ v held. converted-well s c.model at v target (type_of v) names held.0 (held.1, refl))
 
-  -- one that is tested
+  -- an expression that is tested
   pub test_of-well : (at : Place) → IfFine (test_of c literals at e) (λ v. IsWell s v × IsScalarValue v)
   unfolding test_of
   test_of-well at = lift-then (IsWellValue s) (λ v. IsWell s v × IsScalarValue v) (tested at) _ (value-well None tt)
       (λ v held. tested-well s at v held.0 held.1)
 
-  -- one that a `switch` goes by
+  -- an expression that controls a `switch`
   pub selector_of-well : (at : Place) → IfFine (selector_of c literals at e) (λ v. IsWell s v × IsIntegerValue v)
   unfolding selector_of
   selector_of-well at =
       lift-then (IsWellValue s) (λ v. IsWell s v × IsIntegerValue v) (λ v. raised c.model at v (type_of v)) _ (value-well None tt)
       (λ v held. raised-well s c.model at v (type_of v) held.0 (held.1, refl))
 
-  -- one whose value is dropped
+  -- an expression whose value is discarded
   pub discarded_value-well : IfFine (discarded_value c literals e) (IsWellValue s)
   unfolding discarded_value
   discarded_value-well = value_in-well s c h.agrees Run _ (run-well None tt)
 
--- the setting with these literals alone
+-- the setting with only these literals
 abbrev with_literals : Setting → Literals → Setting
 with_literals s literals = record s { program = record s.program { literals = literals } }
 
--- what is known says nothing of literals
+-- agreement with a program doesn't depend on its literals
 agrees-with_literals : (s : Setting) (c : Context) (literals : Literals) → Agrees s c → Agrees (with_literals s literals) c
 agrees-with_literals s c literals h = record {
   model = h.model;
@@ -93,7 +93,7 @@ number-InRange s c (Of at (integer ty) (Number n)) same well =
     subst (λ m. InRange m ty n) (sym same) (subst (λ k. InRange s.program.model k n) (sym is) well.2)
 number-InRange s c (Of at ty form) same well = tt
 
--- a constant expression
+-- the number of a constant expression is in the range of its type
 pub value_of-InRange : (s : Setting) (c : Context) (e : RawExpr) → Agrees s c → HasConstants (written e)
     → IfFine (value_of c e) (λ k. InRange c.model k.0 k.1)
 unfolding value_of

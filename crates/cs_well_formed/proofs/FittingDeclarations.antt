@@ -50,7 +50,7 @@ use Rattle.cs_well_formed.proofs.Verdicts.{IfFine, if_fine-at, if_fine-any, if_f
 use Rattle.cs_well_formed.proofs.TextSizes.{size-pointers, size-declarator, size-with_commas, size-spec, size-specs, size-members, size-parameter, token-some}
 use Rattle.cs_well_formed.proofs.TextSizes.{all_nodes-append, all_nodes-set}
 
--- what is known after something: no literal more, and so many structs and members more at most
+-- what is known after a part of the text: the same literals, and at most so many more structs and members
 pub record Adds (count : ℕ) (k m : Environment) : Type 0 where
   pub literals : m.literals ≡ k.literals
   pub structs : known_nodes m ≤ known_nodes k + count
@@ -74,7 +74,7 @@ adds-tagged name k = let one = adds-struct name k in record { literals = refl; s
 abbrev AddsTo : ℕ → Environment → Typing → Type 0
 AddsTo count k r = Adds count k r.1
 
--- a word that names a type may make one struct
+-- a specifier adds at most one struct
 abbrev word_count : Option TypeWord → ℕ
 word_count None = 0
 word_count (Some w) = 1
@@ -107,14 +107,14 @@ word_type-adds k at_tag at all (Some word.Const) = adds-more 0 1 k k (omega arit
 word_type-adds k at_tag at all (Some (word.Integer kind)) = adds-more 0 1 k k (omega arith) (adds-none k)
 word_type-adds k at_tag at all (Some word.Void) = adds-more 0 1 k k (omega arith) (adds-none k)
 
--- the type of words, within what the text allows
+-- the type that specifiers name, within the bound of the text
 word_type-fits : (k : Environment) (at_tag : Option Place) (at : Place) (all : List TypeWord) (size : ℕ) → length all ≤ size
     → IfFine (word_type k at_tag at all (whole_word all)) (AddsTo (16 * size) k)
 word_type-fits k at_tag at all size small =
     if_fine-weaker (AddsTo (word_count (whole_word all)) k) (AddsTo (16 * size) k) _ (word_type-adds k at_tag at all (whole_word all))
     (λ r h. adds-more (word_count (whole_word all)) (16 * size) k r.1 (omega (arith, whole-counted all)) h)
 
--- the constants of an enum make no struct
+-- the constants of an enum add no struct
 abbrev CountsOn : Environment → Counting → Type 0
 CountsOn k r = Adds 0 k r.known
 
@@ -147,7 +147,7 @@ enum_body-adds count k at name constants =
     (λ all counted. enum_tag-adds count k all.known name counted))
     (λ _. tt)
 
--- the struct whose body begins
+-- the struct whose body begins here
 abbrev OpensOn : Environment → Opening → Type 0
 OpensOn k o = Adds 1 k o.known
 
@@ -162,7 +162,7 @@ opening-adds : (at : Place) (name : Option (List ℕ)) (k : Environment) → IfF
 opening-adds at (Some name) k = opening_tagged-adds at name k (tag_in k name)
 opening-adds at None k = let one = adds-struct [] k in record { literals = refl; structs = one.structs }
 
--- members so far: one more for each declarator
+-- members so far: at most one more for each declarator
 abbrev LaysOn : Laying → ℕ → Laying → Type 0
 LaysOn before count after = length after.members ≤ length before.members + count
 
@@ -192,7 +192,7 @@ members_declared-lay c base (d ∷ ds) before =
     more : (one all : Laying) → LaysOn before 1 one → LaysOn one (length ds) all → LaysOn before (length (d ∷ ds)) all
     more one all h g = omega arith
 
--- a declarator has a token
+-- a declarator has at least one token
 sized-declarator : (d : Declarator) → 1 ≤ size_of (declarator_text d)
 sized-declarator d = omega (arith, size-pointers d.pointers (token.Name d.name ∷ brackets_text d.bounds []))
 
@@ -209,7 +209,7 @@ sized-declarators (d ∷ ds) = omega (
   sized-each ds,
 )
 
--- a word has a token
+-- a specifier has at least one token
 sized-word : (w : TypeWord) → 1 ≤ size_of (spec_text (Plain w))
 sized-word word.Const = omega arith
 sized-word (word.Integer kind) = omega (arith, token-some (integer_word_text kind))
@@ -218,7 +218,7 @@ sized-word (word.Typedef name) = omega arith
 sized-word (word.Struct tag) = omega arith
 sized-word (word.Enum tag) = omega arith
 
--- a body of a struct, with its word and its braces
+-- the body of a struct, with its keyword and its braces
 sized-body : (name : Option (List ℕ)) (ms : Members) → size_of (members_text ms) + 3 ≤ size_of (spec_text (StructBody name ms))
 sized-body None ms = omega (arith, size-members ms (punctuator_text punctuator.CloseBrace []))
 sized-body (Some name) ms = omega (arith, size-members ms (punctuator_text punctuator.CloseBrace []))
@@ -255,7 +255,7 @@ plain_words-room (words.TheVariants.Struct' name shape row ∷ others) =
 plain_words-room (words.TheVariants.Enum name constants comma ∷ others) =
     omega (arith, sized-specs (spec (words.TheVariants.Enum name constants comma)) (specs_list others), plain_words-room others)
 
--- members so far, and the structs that their types make known
+-- the members so far, and the structs that their types add
 record BodyFits (before : Laying) (size : ℕ) (k : Environment) (b : Body) : Type 0 where
   literals : b.known.literals ≡ k.literals
   nodes : known_nodes b.known + length b.laying.members ≤ known_nodes k + length before.members + 16 * size
@@ -338,7 +338,7 @@ words_type-fits k at_tag at all (words.TheVariants.Struct' name shape row ∷ ot
 words_type-fits k at_tag at all (words.TheVariants.Enum name constants comma ∷ others) size plain room =
     enum_body-adds (16 * size) k (tag_place at at_tag) name constants.items
 
--- the words before declarators
+-- the specifiers before declarators
 specs_type-fits : (k : Environment) (at : Place) (raw : RawSpecs) → IfFine (specs_type k at raw) (AddsTo (16 * size_of (specs_text (specs raw))) k)
 specs_type-fits k at raw =
     words_type-fits k raw.tag at (plain_words raw.words.items) raw.words.items (size_of (specs_text (specs raw))) (plain_words-room raw.words.items)
@@ -349,7 +349,7 @@ words_are_bounded k m at raw ty is =
     let h = if_fine-at (AddsTo (16 * size_of (specs_text (specs raw))) k) (specs_type k at raw) (ty, m) (specs_type-fits k at raw) is in
     record { literals = h.literals; structs = h.structs }
 
--- typedefs
+-- typedefs add no structs
 typedef_added-adds : (base : Shape) (d : RawDeclarator) (k : Environment) → IfFine (typedef_added base d k) (Adds 0 k)
 typedef_added-adds base d k =
     cond-then (Adds 0 k) (is_declared_here d.name k) _ _ (λ _. tt)
@@ -369,7 +369,7 @@ typedefs_are_bounded k m base names is =
     let h = if_fine-at (Adds 0 k) (typedefs_added base names k) m (typedefs_added-adds base names k) is in
     record { literals = h.literals; structs = omega (arith, h.structs) }
 
--- parameters after others, with their marks
+-- parameters after others, with the marks of those that may be written through
 record HeadFits (before : Head) (count : ℕ) (after : Head) : Type 0 where
   literals : after.known.literals ≡ before.known.literals
   nodes : length after.variables + length after.written + known_nodes after.known

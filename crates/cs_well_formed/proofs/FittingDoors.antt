@@ -26,7 +26,7 @@ use Rattle.cs_well_formed.proofs.LiteralsAfter.{sized-Assign, sized-Comma, liter
 use Rattle.cs_well_formed.proofs.FittingValues.{Fits, converted-fits, raised-fits, tested-fits}
 use Rattle.cs_well_formed.proofs.FittingTyping.{room_of, value_in-fits, operand_in-fits, formed-fits}
 
--- an expression has a token
+-- an expression has at least one token
 pub sized-some : (e : Written) → 1 ≤ sized e
 sized-some (Named name) = omega arith
 sized-some (Numeral constant) = omega arith
@@ -49,7 +49,7 @@ sized-some (Assign op l r) = omega (arith, sized-Assign op l r)
 sized-some (Comma l r) = omega (arith, sized-Comma l r)
 
 module _ (Is : Place → Type 0) where
-  -- with the literals after it
+  -- an expression with the literals after it
   pub fits-bounded : (literals : Literals) (k : RawExprKind) (room : ℕ) (e : Typed) → Fits Is room e → room ≤ room_of k + 2
       → IsBounded Is literals (literals_after literals k) (sized (written_kind k)) e
   fits-bounded literals k room e h small = record {
@@ -59,7 +59,7 @@ module _ (Is : Place → Type 0) where
   }
 
   module _ (c : Context) (literals : Literals) (e : RawExpr) (among : ExpressionAmong Is e) where
-    -- an expression that is run
+    -- an expression that is evaluated
     value-fits : (target : Option Shape) → IfFine (operand_in c Run (formed c Run literals target e.place e.kind.value)) (Fits Is (room_of e.kind.value + 1))
     value-fits target = operand_in-fits Is c (room_of e.kind.value) Run _ (formed-fits Is c Run literals target e.place e.kind.value among)
 

@@ -37,7 +37,7 @@ use Rattle.cs_well_formed.proofs.FittingValues.{Fits, converted-fits}
 use Rattle.cs_well_formed.proofs.FittingTyping.{room_of}
 use Rattle.cs_well_formed.proofs.FittingDoors.{sized-some, operand_of-fits}
 
--- items, each after a comma, and the same without the first comma
+-- items, each preceded by a comma, and the same without the first comma
 sized-items : (first : WrittenInitial) (others : WrittenInitials)
     → size_of (further_initials_text (MoreItems first others)) ≡ size_of (initial_text first) + size_of (further_initials_text others) + 1
 sized-items first others = omega (arith, size-initial first (further_initials_text others []))
@@ -50,13 +50,13 @@ sized-list : (items : WrittenInitials) (comma : Bool) → size_of (initials_text
 sized-list items true = omega (arith, size-initials items (punctuator_text punctuator.Comma (punctuator_text punctuator.CloseBrace [])))
 sized-list items false = omega (arith, size-initials items (punctuator_text punctuator.CloseBrace []))
 
--- the bytes of a text are in its token
+-- the bytes of a string literal are counted in its token
 text-room : (k : RawExprKind) → length (text_of k) + 1 ≤ sized (written_kind k)
 text-room (kind.Text bytes) = omega arith
 text-room other = omega (arith, sized-some (written_kind other))
 
 module _ (Is : Place → Type 0) where
-  -- an initializer whose values aren't converted yet, within a bound that allows for their conversions
+  -- an initializer whose values aren't converted yet, within a bound that has room for their conversions
   record IsReadBy (literals : Literals) (size : ℕ) (r : Reading) : Type 0 where
     stands : InitialStandsAmong Is r.0
     no_fewer : texts_nodes literals ≤ texts_nodes r.1
@@ -118,7 +118,7 @@ module _ (Is : Place → Type 0) where
             no_more = omega (arith, h.no_more, k.no_more, sized-items (initial first) (initials others));
           }))
 
-    -- what the `=` makes of values: each has a node more at most
+    -- values that the `=` has converted: each has at most one more node
     record IsJudged (i found : Initial) : Type 0 where
       stands : InitialStandsAmong Is found
       nodes : initial_nodes found ≤ 2 * initial_nodes i

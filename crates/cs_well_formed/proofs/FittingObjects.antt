@@ -38,19 +38,19 @@ use Rattle.cs_well_formed.proofs.Verdicts.{IfFine, if_fine-any, if_fine-weaker, 
 use Rattle.cs_well_formed.proofs.Verdicts.{unless_fault-then}
 use Rattle.cs_well_formed.proofs.FittingValues.{Fits, fits-more, converted-fits, in_type-fits}
 
--- expressions in a row that stand among some places and have so many nodes at most
+-- a list of expressions at these positions, with at most so many nodes
 pub record FitInRow (Is : Place → Type 0) (room : ℕ) (row : TypedList) : Type 0 where
   pub stand : RowStandsAmong Is row
   pub nodes : row_nodes row ≤ room
 
--- how many there are
+-- the length of a list
 abbrev pub row_count : TypedList → ℕ
 row_count NoMore = 0
 row_count (Further first others) = suc (row_count others)
 
 module _ (Is : Place → Type 0) where
   module _ (at : Place) (here : Is at) where
-    -- addresses and what they lead to
+    -- `&`, and the objects that pointers point to
     pub address_of-fits : (room : ℕ) (e : Typed) → Fits Is room e → IfFine (address_of at e) (Fits Is (room + 1))
     unfolding address_of
     address_of-fits room e h =
@@ -116,7 +116,7 @@ module _ (Is : Place → Type 0) where
         member_by-fits (room + 1) table name_at name (member_after at e) (struct_after ty)
         (λ m. record { stands = (here, h.stands); nodes = omega (arith, h.nodes) })
 
-    -- steps
+    -- `++` and `--`
     pub stepped-fits : (model : DataModel) (op : BinOp) (gives : Gives) (room : ℕ) (e : Typed) (ty : Shape) → Fits Is room e
         → IfFine (stepped model op gives at e ty) (Fits Is (room + 2))
     unfolding stepped
@@ -158,7 +158,7 @@ module _ (Is : Place → Type 0) where
         lift-then (Fits Is n) (Fits Is (m + n + 2)) (stored c op at object) (led at (left_fault c op (type_of object)) right)
         (led-then (Fits Is n) at (left_fault c op (type_of object)) right given) (λ v k. stored-fits c op m n object v h k)
 
-    -- the values of arguments, each converted to the type of its parameter
+    -- each argument is converted to the type of its parameter
     before-fits : (m n : ℕ) (v : Verdict Typed) (w : Verdict TypedList) → IfFine v (Fits Is m) → IfFine w (FitInRow Is n)
         → IfFine (before_others at v w) (FitInRow Is (m + n))
     before-fits m n (Fine e) (Fine others) h k = record { stand = (h.stands, k.stand); nodes = omega (arith, h.nodes, k.nodes) }

@@ -49,7 +49,7 @@ use Rattle.cs_well_formed.proofs.FittingValues.{recast-fits, combined-fits, chos
 use Rattle.cs_well_formed.proofs.FittingObjects.{row_count, address_of-fits, through-fits, indexed-fits, selected-fits, selected_through-fits, stepped-fits}
 use Rattle.cs_well_formed.proofs.FittingObjects.{stored_to-fits, call-fits, steppable-fits, left_side-fits}
 
--- the nodes that its text allows an expression
+-- the number of nodes that an expression may have by its text
 abbrev pub room_of : RawExprKind → ℕ
 room_of k = 5 * sized (written_kind k)
 
@@ -71,7 +71,7 @@ module _ (Is : Place → Type 0) (c : Context) where
       lift-then (Fits Is room) (Fits Is (room + 1)) (operand c.table.list) (done c purpose v) (done-fits room purpose v h)
       (λ e. operand-fits Is c.table.list room e)
 
-  -- what stands at a place
+  -- names and string literals have one node
   module _ (at : Place) (here : Is at) where
     named-fits : (m : Option Meaning) → IfFine (named at m) (Fits Is 1)
     unfolding named
@@ -86,7 +86,7 @@ module _ (Is : Place → Type 0) (c : Context) where
     unfolding text_at
     text-fits literals bytes = cond-then (Fits Is 1) (nat_le (length bytes) 65535) _ _ (λ _. record { stands = (here, tt); nodes = omega arith }) (λ _. tt)
 
-    -- an operator before one operand
+    -- a prefix operator
     prefixed_value-fits : (op : PrefixOp) (room : ℕ) (v : Typed) → Fits Is room v → IfFine (prefixed_value c op at v) (Fits Is (room + 2))
     unfolding prefixed_value
     prefixed_value-fits prefix_op.Address room v h = if_fine-more Is (room + 1) (room + 2) _ (address_of-fits Is at here room v h) (omega arith)
@@ -112,7 +112,7 @@ module _ (Is : Place → Type 0) (c : Context) where
         (cond-then (Fits Is (room + 1)) (is_void target) _ _ (λ _. valued-fits Is c.table.list room e h) (λ _. operand-fits Is c.table.list room e h))
         (λ v g. if_fine-more Is (room + 1 + 1) (room + 2) _ (recast-fits Is at here c.model (room + 1) v target (type_of v) g) (omega arith))
 
-    -- a step
+    -- `++` and `--`
     step-fits : (op : _) (gives : Gives) (room : ℕ) (v : Verdict Typed) → IfFine v (Fits Is room)
         → IfFine (lift (stepped_object c op gives at) (lift (steppable c.table.list op at) v)) (Fits Is (room + 2))
     step-fits op gives room v h =
@@ -136,7 +136,7 @@ module _ (Is : Place → Type 0) (c : Context) where
         (λ whole _. measured-fits Is at here c.model c.table.list whole)))
         (if_fine-any bounds) (λ size _ fits _. fits)
 
-  -- one more argument
+  -- an argument and those after it
   further-fits : (m n : ℕ) (v : Verdict Typed) (w : Verdict TypedList) → IfFine v (Fits Is m)
       → IfFine w (λ vs. RowStandsAmong Is vs × (row_nodes vs + row_count vs ≤ n))
       → IfFine (lift2 further v w) (λ vs. RowStandsAmong Is vs × (row_nodes vs + row_count vs ≤ m + n + 1))

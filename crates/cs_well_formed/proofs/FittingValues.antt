@@ -37,12 +37,12 @@ use Rattle.cs_well_formed.specs.Nodes.{expression_nodes}
 use Rattle.cs_well_formed.specs.Places.{StandsAmong}
 use Rattle.cs_well_formed.proofs.Verdicts.{IfFine, if_fine-weaker, lift-then, cond-then}
 
--- an expression that stands among some places and has so many nodes at most
+-- an expression at these positions, with at most so many nodes
 pub record Fits (Is : Place → Type 0) (room : ℕ) (e : Typed) : Type 0 where
   pub stands : StandsAmong Is e
   pub nodes : expression_nodes e ≤ room
 
--- an expression has a node of its own
+-- an expression has at least one node
 pub some_nodes : (e : Typed) → 1 ≤ expression_nodes e
 some_nodes (Of at ty form) = omega arith
 
@@ -53,7 +53,7 @@ module _ (Is : Place → Type 0) where
   pub if_fine-more : (m n : ℕ) (v : Verdict Typed) → IfFine v (Fits Is m) → m ≤ n → IfFine v (Fits Is n)
   if_fine-more m n v h room = if_fine-weaker (Fits Is m) (Fits Is n) v h (λ e. fits-more m n e room)
 
-  -- an expression of its purpose
+  -- an expression, finished for its purpose
   pub finished-fits : (room : ℕ) (model : DataModel) (purpose : Purpose) (e : Typed) → Fits Is room e → IfFine (finished model purpose e) (Fits Is room)
   unfolding finished
   finished-fits room model Run e h = h
@@ -68,7 +68,7 @@ module _ (Is : Place → Type 0) where
       number-fits (Some n) = record { stands = (h.stands.0, tt); nodes = omega (arith, h.nodes) }
       number-fits None = tt
 
-  -- its value
+  -- the value of an object
   load-fits : (table : List StructType) (room : ℕ) (at : Place) (e : Typed) (ty : Shape) → Is at → Fits Is room e
       → IfFine (cond (is_complete table ty) (Fine (Of at ty (Load e))) (Fault code.IncompleteType at)) (Fits Is (room + 1))
   load-fits table room at e ty is h =
@@ -96,7 +96,7 @@ module _ (Is : Place → Type 0) where
       cond-then (Fits Is (room + 1)) (is_void ty) _ _ (λ _. tt) (λ _. valued-fits table room (Of at ty form) h)
 
   module _ (at : Place) (here : Is at) where
-    -- a size
+    -- the size of a type
     pub measured-fits : (model : DataModel) (table : List StructType) (ty : Shape) → IfFine (measured model table at ty) (Fits Is 1)
     unfolding measured
     measured-fits model table ty = cond-then (Fits Is 1) (is_complete table ty) _ _ (λ _. by_size (bytes_in model table ty)) (λ _. tt)
@@ -105,7 +105,7 @@ module _ (Is : Place → Type 0) where
         by_size (Some n) = record { stands = (here, tt); nodes = omega arith }
         by_size None = tt
 
-    -- a converted value
+    -- a conversion
     converts : (room : ℕ) (e : Typed) (ty : Shape) → Fits Is room e → Fits Is (room + 1) (Of at ty (Convert e))
     converts room e ty h = record { stands = (here, h.stands); nodes = omega (arith, h.nodes) }
 
@@ -162,7 +162,7 @@ module _ (Is : Place → Type 0) where
     from_integer-fits : (model : DataModel) (room : ℕ) (e : Typed) (target : Shape) → IfFine (pointed_from_integer model at e target) (Fits Is (room + 1))
     from_integer-fits model room e target = cond-then (Fits Is (room + 1)) (is_null model e) _ _ (λ _. null-fits room target) (λ _. tt)
 
-    -- a value that goes to a type as if by assignment
+    -- a value converted as if by assignment
     pub converted-fits : (model : DataModel) (room : ℕ) (e : Typed) (target source : Shape) → Fits Is room e
         → IfFine (converted model at e target source) (Fits Is (room + 1))
     unfolding converted
@@ -193,7 +193,7 @@ module _ (Is : Place → Type 0) where
     recast-fits model room e (pointer t) (pointer u) h = pointer_cast-fits model room e t u h
     recast-fits model room e target source h = tt
 
-    -- two values that an operator brings to one type
+    -- two values that an operator converts to one type
     record FitTogether (m n : ℕ) (pair : Pair) : Type 0 where
       left : Fits Is (m + 1) pair.left
       right : Fits Is (n + 1) pair.right
@@ -303,7 +303,7 @@ module _ (Is : Place → Type 0) where
           (λ _. record { stands = (here, (h.stands, k.stands)); nodes = omega (arith, h.nodes, k.nodes) })
           (λ _. tt)
 
-      -- an operator between two values
+      -- an operator on two values
       pub combined-fits : (model : DataModel) (table : List StructType) (op : InfixOp) → IfFine (combined model table op at left right) (Fits Is (m + n + 3))
       unfolding combined
       combined-fits model table infix_op.Or = or-fits
@@ -342,7 +342,7 @@ module _ (Is : Place → Type 0) where
       pub followed-fits : IfFine (followed at left right) (Fits Is (m + n + 1))
       followed-fits = record { stands = (here, (h.stands, k.stands)); nodes = omega (arith, h.nodes, k.nodes) }
 
-    -- a value that is denied
+    -- `!`
     pub denied-fits : (room : ℕ) (e : Typed) → Fits Is room e → IfFine (denied at e) (Fits Is (room + 1))
     unfolding denied
     denied-fits room e h =

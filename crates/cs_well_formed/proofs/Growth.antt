@@ -67,7 +67,7 @@ module _ (s t : Setting) (grows : Grows s t) where
   Names-grown ty h = names-longer s.program.table t.program.table grows.program.table.longer ty h
 
   mutual
-    -- a well-formed expression
+    -- a well-formed expression remains well formed
     pub IsWell-grown : (e : Typed) → IsWell s e → IsWell t e
     IsWell-grown (Of at ty form) h = IsWellForm-grown form ty h
 
@@ -125,7 +125,7 @@ module _ (s t : Setting) (grows : Grows s t) where
   HasParts-grown (pointer target) types h = absurd h
 
   mutual
-    -- a well-formed initializer
+    -- a well-formed initializer remains well formed
     pub IsWellInitial-grown : (i : Initial) (ty : Shape) → IsWellInitial s ty i → IsWellInitial t ty i
     IsWellInitial-grown (Value v) ty h = (IsWell-grown v h.0, h.1)
     IsWellInitial-grown (Bytes bytes) ty h = h
@@ -156,7 +156,7 @@ module _ (s t : Setting) (grows : Grows s t) where
   label-grown label h = omega (arith, grows.labels)
 
   mutual
-    -- a well-formed statement
+    -- a well-formed statement remains well formed
     pub IsWellStatement-grown : (b : Statement) → IsWellStatement s b → IsWellStatement t b
     IsWellStatement-grown (Block at statements) h = AreWellStatements-grown statements h
     IsWellStatement-grown (Declare at number first) h =
@@ -190,7 +190,7 @@ module _ (s t : Setting) (grows : Grows s t) where
   IsFunction-grown FreeOf f h = h
   IsFunction-grown (Numbered number) f h = let found = grows.program.routines number h.0 h.1 in (found.0, found.1, found.2 ∙ h.2, found.3 ∙ h.3)
 
-  -- what a name stands for
+  -- what a name denotes still exists
   pub IsThere-grown : (m : Meaning) → IsThere s m → IsThere t m
   IsThere-grown (Typedef ty) h = tt
   IsThere-grown (Constant value) h = subst (λ m. InRange m Int value) grows.program.model h
@@ -198,7 +198,7 @@ module _ (s t : Setting) (grows : Grows s t) where
   IsThere-grown (LocalName number ty) h = let found = grows.variables number h.0 h.1 in (found.0, found.1, found.2 ∙ h.2)
   IsThere-grown (Function f) h = IsFunction-grown f.callee f h
 
-  -- what is known agrees with what grows
+  -- what is known still agrees with a program that has grown
   pub Agrees-grown : (c : Context) → TypesAroundAreNamed t → Agrees s c → Agrees t c
   Agrees-grown c types h = record {
     model = h.model ∙ grows.program.model;
@@ -209,7 +209,7 @@ module _ (s t : Setting) (grows : Grows s t) where
     types = types;
   }
 
--- a program that extends another, and one that extends that
+-- extension of programs is transitive
 pub Extends-trans : (p q r : TypedProgram) → Extends p q → Extends q r → Extends p r
 Extends-trans p q r h k = record {
   model = h.model ∙ k.model;
@@ -228,7 +228,7 @@ Extends-self p = record {
   routines = λ number r is. (r, is, refl, refl);
 }
 
--- the same of where expressions stand
+-- so is growth of settings
 pub Grows-trans : (s t u : Setting) → Grows s t → Grows t u → Grows s u
 Grows-trans s t u h k = record {
   program = Extends-trans s.program t.program u.program h.program k.program;
@@ -237,14 +237,14 @@ Grows-trans s t u h k = record {
   returns = h.returns ∙ k.returns;
 }
 
--- in the same function of a program that extends another
+-- the same function, in a program that extends its own
 pub Grows-inside : (s : Setting) (q : TypedProgram) → Extends s.program q → Grows s (record s { program = q })
 Grows-inside s q h = record { program = h; variables = λ number v is. (v, is, refl); labels = omega arith; returns = refl }
 
 HasConstantValues-grown : (p q : TypedProgram) (i : Initial) → Extends p q → HasConstantValues p.model i → HasConstantValues q.model i
 HasConstantValues-grown p q i h held = subst (λ m. HasConstantValues m i) h.model held
 
--- a well-formed object of a file
+-- a well-formed file-scope object remains well formed
 pub IsWellGlobal-grown : (p q : TypedProgram) (g : FileObject) → Extends p q → IsWellGlobal p g → IsWellGlobal q g
 IsWellGlobal-grown p q g h well =
     let grows = Grows-inside (outside p) q h in
@@ -255,7 +255,7 @@ IsWellGlobal-grown p q g h well =
     first None held = tt
     first (Some i) held = (IsWellInitial-grown (outside p) (outside q) (Grows-inside (outside p) q h) i g.ty held.0, HasConstantValues-grown p q i h held.1)
 
--- a well-formed function
+-- a well-formed function remains well formed
 pub IsWellRoutine-grown : (p q : TypedProgram) (r : Routine) → Extends p q → IsWellRoutine p r → IsWellRoutine q r
 IsWellRoutine-grown p q r h well = record {
   returns = well.returns;

@@ -56,7 +56,7 @@ abbrev mutual
   AreRead s table (Some []) (Part first others) = ⊥
   AreRead s table (Some (ty ∷ types)) (Part first others) = IsRead s table ty first × AreRead s table (Some types) others
 
--- what holds of a value under a premise
+-- a property of a value that holds under a premise
 under : {A : Type 0} (Q : Type 0) (P : A → Type 0) (v : Verdict A) → (Q → IfFine v P) → IfFine v (λ a. Q → P a)
 under Q P (Fine a) h = h
 under Q P (Fault code place) h = tt
@@ -72,7 +72,7 @@ text-taken storage element count (kind.Text bytes) h =
 text-taken storage element count other h = absurd cc
 
 module _ (s : Setting) (c : Context) (agrees : Agrees s c) where
-  -- what is read, as far as the literals after it are the program's
+  -- what is read is well formed, if the literals after it are the first ones of the program
   abbrev IsReading : Literals → Shape → Reading → Type 0
   IsReading literals ty r = (AreFirst s.program r.1 → IsRead s c.table.list ty r.0) × Begins literals r.1
 
@@ -177,7 +177,7 @@ module _ (s : Setting) (c : Context) (agrees : Agrees s c) where
   parts-well ty types v has h = lift-then (AreWellParts s types) (IsWellInitial s ty) (λ all. Fine (Parts all)) v h (λ all well. (types, has, well))
 
   module _ (laid_out : IsLaidOut s.program.model s.program.table) (storage : Storage) (at : Place) where
-    -- no item for a struct that has no members where it is typed
+    -- no items, for a struct that has no members yet
     none-well : (number : ℕ) (parts : Initials) → IsWhole s.program (struct number) → AreRead s c.table.list (Some []) parts
         → IfFine (lift (λ all. Fine (Parts all)) (parts_judged c storage at [] parts)) (IsWellInitial s (struct number))
     none-well number (Part first others) whole read = absurd read
@@ -222,7 +222,7 @@ module _ (s : Setting) (c : Context) (agrees : Agrees s c) where
       parts-judged (ty ∷ types) (Part first others) whole names read =
           before-well at ty types _ _ (part-well ty first whole.0 names.0 read.0) (parts-judged types others whole.1 names.1 read.1)
 
-    -- what the `=` says of the whole
+    -- the whole initializer, once the `=` has converted its values
     judged-well : (ty : Shape) (i : Initial) → IsWhole s.program ty → NamesStructs s.program.table ty → IsRead s c.table.list ty i
         → IfFine (initial_judged c storage at ty i) (IsWellInitial s ty)
     judged-well ty (Value v) whole names read = value-judged storage at ty v names read.0 read.1
@@ -253,7 +253,7 @@ initials_are_well s c literals following storage at ty raw found agrees laid_out
     if_fine-at (λ (r : Reading). AreFirst s.program r.1 → IsWellInitial s ty r.0) (initial_typed c literals storage at ty raw) (found, following)
     (initial-well s c agrees laid_out storage at literals ty raw whole names fit) is texts
 
--- the values that the `=` lets an object of a file have
+-- the values that the `=` accepts in a file-scope object are constant
 module _ (c : Context) (at : Place) where
   value-constant : (ty : Shape) (v : Typed) → IfFine (value_judged c.model InFile at ty v) (HasConstantValues c.model)
   value-constant ty v =
@@ -285,7 +285,7 @@ module _ (c : Context) (at : Place) where
   judged-constant ty (Bytes bytes) = tt
   judged-constant ty (Parts parts) = part-constant ty (Parts parts)
 
-  -- an initializer of an object of a file
+  -- the initializer of a file-scope object is constant
   pub initial-constant : (literals : Literals) (ty : Shape) (raw : RawInitial)
       → IfFine (initial_typed c literals InFile at ty raw) (λ (r : Reading). HasConstantValues c.model r.0)
   initial-constant literals ty raw =

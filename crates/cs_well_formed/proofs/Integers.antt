@@ -21,13 +21,13 @@ is_integer-same ty (pointer target) = refl
 is_integer-same ty (array element count) = refl
 is_integer-same ty (struct number) = refl
 
--- a value of its operator's type can stand on the right
+-- a value of its operator's type can be the right operand
 pub value-IsRight : (op : BinOp) (ty : IntType) (e : Typed) → IsValueOf e (integer ty) → IsRight op (integer ty) e
 value-IsRight Shl ty e v = (v.0, (ty, v.1))
 value-IsRight Shr ty e v = (v.0, (ty, v.1))
 value-IsRight other ty e v = v
 
--- an integer value is one of its type
+-- a value of an integer type is an integer value
 pub integer-value : (e : Typed) (ty : IntType) → IsValueOf e (integer ty) → IsIntegerValue e
 integer-value e ty v = (v.0, (ty, v.1))
 

@@ -6,7 +6,7 @@ use Rattle.cs_ast.specs.TypedTree.{Then}
 use Rattle.cs_well_formed.specs.Statements.{label_count, label_counts, AreNumbered, AllAreNumbered}
 use Rattle.cs_well_formed.specs.Landing.{HasLabel, SomeHasLabel, LabelsAreThere}
 
--- a number lies in one of two parts
+-- a number of a range is in one of its two parts
 in_parts : (A B : Type 0) (n low first others : ℕ) → low ≤ n → n < low + (first + others) → (n < low + first → A)
     → (low + first ≤ n → n < (low + first) + others → B) → A ⊎ B
 in_parts A B n low first others above below one other = by_part (cases_lt n (low + first))

@@ -12,7 +12,7 @@ use Rattle.cs_types.specs.Kinds.{is_complete}
 use Rattle.cs_ast.specs.TypedProgram.{TypedProgram}
 use Rattle.cs_well_formed.specs.Expressions.{IsWhole}
 
--- each of these types is whole
+-- each of these types is complete
 abbrev pub AreWhole : TypedProgram → List Shape → Type 0
 AreWhole p [] = Unit {0}
 AreWhole p (ty ∷ types) = IsWhole p ty × AreWhole p types
@@ -53,7 +53,7 @@ module _ (p : TypedProgram) where
       let found = option_map-there _ (member_layouts (layout_with p.model (struct_layout p.model p.table depth)) ms) ls rest in
       (laid-complete p.model p.table depth m.ty first is, each-whole depth ms found.0 found.1))
 
-  -- the members of a struct
+  -- the members of a struct have complete types
   pub members-whole : (number : ℕ) (members : List Member) → IsLaidOut p.model p.table → members_of p.table number ≡ Some members
       → AreWhole p (map (λ (m : Member). m.ty) members)
   members-whole number members laid_out is =

@@ -51,7 +51,7 @@ use Rattle.cs_well_formed.proofs.Verdicts.{IfFine, if_fine-at, if_fine-any, if_f
 use Rattle.cs_well_formed.proofs.Objects.{complete-IsWhole}
 use Rattle.cs_well_formed.proofs.Structs.{keeps-self, keeps-trans}
 
--- a number that no struct with members has
+-- no struct with members has this number
 abbrev pub IsOpen : List StructType → ℕ → Type 0
 IsOpen table number = (n : ℕ) (members : List Member) → members_of table n ≡ Some members → n ≢ number
 
@@ -65,7 +65,7 @@ found-set xs i j v x apart h =
     let within = slice_get_within xs j x h in
     slice_get_read (set xs i v) (length xs) j x (sym (length-set xs i v)) within (sym (get_or-set_other xs i j v x apart ∙ get_or_from_slice_get xs j x x h))
 
--- members in one table are those in another one that has the struct too
+-- members in one table are those in another table that has the struct too
 kept : (one other : List StructType) → ((n : ℕ) (x : StructType) → slice_get one n ≡ Some x → slice_get other n ≡ Some x)
     → (number : ℕ) (members : List Member) → members_of one number ≡ Some members → members_of other number ≡ Some members
 kept one other has number members h =
@@ -78,7 +78,7 @@ keeps-append table more = record {
   longer = let e = length-append table more in omega (arith, e);
 }
 
--- a struct after all others is open
+-- the number after those of all structs is open
 last-open : (table : List StructType) → IsOpen table (length table)
 last-open table n members h =
     option_and_then_some (λ (laid : StructType). laid.members) (slice_get table n) members h
@@ -122,7 +122,7 @@ module _ (s : Setting) where
   leads-tagged name k = leads-trans k (with_struct name k) (with_tagged_struct name k) (leads-struct name k)
       (leads-tag name (tag.Struct (length (table_of k))) (with_struct name k))
 
-  -- after the declaration of what is there
+  -- after a declaration, if the program has what is declared
   pub leads-declaring : (name : List ℕ) (meaning : Meaning) (k : Environment) → IsThere s meaning → Leads s k (declaring name meaning k)
   leads-declaring name meaning k there = record {
     model = refl;
@@ -131,7 +131,7 @@ module _ (s : Setting) where
     declarations = λ h. All-push (λ (d : Declaration). IsThere s d.meaning) (declarations_of k) (record { name = name; meaning = meaning }) h there;
   }
 
-  -- the type of some words
+  -- the type of some specifiers
   abbrev LeadsTo : Environment → Typing → Type 0
   LeadsTo k r = Leads s k r.1
 
@@ -203,7 +203,7 @@ module _ (s : Setting) where
       (λ all counted. leads-trans k all.known (with_enum_tag name all.known) counted (leads-enum_tag name all.known)))
       (λ _. tt)
 
-  -- the struct whose body begins
+  -- the struct whose body begins here
   record IsOpening (k : Environment) (o : Opening) : Type 0 where
     known : Leads s k o.known
     is_open : IsOpen (table_of k) o.number
@@ -232,7 +232,7 @@ module _ (s : Setting) where
     is_open = last-open (table_of k);
   }
 
-  -- a struct that is open where its body begins is not one of those that have their members there
+  -- a struct that was open before its body gets its members, and the other structs keep theirs
   leads-members : (k m : Environment) (number : ℕ) (name before : List ℕ) (laying : Laying) → Leads s k m → IsOpen (table_of k) number
       → Leads s k (with_reading before (with_members number name laying m))
   leads-members k m number name before laying h is_open = record {
@@ -309,7 +309,7 @@ module _ (s : Setting) where
   words_type-leads k at_tag at all (words.TheVariants.Enum name constants comma ∷ others) same =
       enum_body-leads k (tag_place at at_tag) name constants.items same
 
-  -- the words before declarators
+  -- the specifiers before declarators
   pub specs_type-leads : (k : Environment) (at : Place) (raw : RawSpecs) → k.context.model ≡ s.program.model → IfFine (specs_type k at raw) (LeadsTo k)
   specs_type-leads k at raw same = words_type-leads k raw.tag at (plain_words raw.words.items) raw.words.items same
 
@@ -328,7 +328,7 @@ module _ (s : Setting) where
       (λ m first.
       if_fine-weaker (Leads s m) (Leads s k) (typedefs_added base ds m) (typedefs_added-leads base ds m) (λ n others. leads-trans k m n first others))
 
--- variables of which the first ones are these
+-- if the variables of a list are those of the function, so are those of its beginning
 variables-before : (s : Setting) (variables : List Variable) (v : Variable) → AreVariables s (variables ++ v ∷ []) → AreVariables s variables
 variables-before s variables v h number w is = h number w (found variables number is)
   where
@@ -341,7 +341,7 @@ last-variable : (variables : List Variable) (v : Variable) → slice_get (variab
 last-variable [] v = refl
 last-variable (x ∷ vs) v = last-variable vs v
 
--- parameters, as far as they are the first variables of the function
+-- parameters, if they are the first variables of the function
 module _ (s : Setting) where
   record HeadLeads (before : Head) (after : Head) : Type 0 where
     model : after.known.context.model ≡ before.known.context.model
@@ -402,7 +402,7 @@ module _ (s : Setting) where
       if_fine-weaker (HeadLeads (nothing_before k)) (λ head. AreVariables s head.variables → Leads s k head.known) _
       (parameters_after-leads list.items (nothing_before k) same) (λ head h. h.known)
 
--- the type of a declared object
+-- the type of a declared object is complete
 pub object_type-whole : (s : Setting) (c : Context) → Agrees s c → (base : Shape) (d : RawInit) → IfFine (object_type c base d) (IsWhole s.program)
 unfolding complete_at
 object_type-whole s c agrees base d =

@@ -16,11 +16,11 @@ use Rattle.cs_well_formed.specs.Sizes.{size_of}
 use Rattle.cs_well_formed.specs.Bounded.{texts_nodes, TextsGrow, LiteralsAreBounded}
 use Rattle.cs_well_formed.proofs.TextSizes.{size-text, size-listed, size-bounds, size-words, size-pointers, all_nodes-append}
 
--- the size of a written expression
+-- the size of the text of an expression
 abbrev pub sized : Written → ℕ
 sized e = size_of (text e)
 
--- an expression has a size, and its parts have theirs
+-- the size of an expression is that of its parts and its own tokens
 pub sized-Enclosed : (e : Written) → sized (Enclosed e) ≡ sized e + 2
 sized-Enclosed e = omega (arith, size-text e (token.Punctuator punctuator.CloseParenthesis ∷ []))
 
@@ -83,7 +83,7 @@ sized-Cast words pointers es e =
       size-bounds es (token.Punctuator punctuator.CloseParenthesis ∷ text e []),
     )
 
--- a row with commas before each, and without the first comma
+-- a list with a comma before each item, and without the first comma
 pub sized-commas : (e : Written) (es : WrittenList) → size_of (after_commas (More e es)) ≡ sized e + size_of (after_commas es) + 1
 sized-commas e es = omega (arith, size-text e (after_commas es []))
 
@@ -94,7 +94,7 @@ sized-listed (More e es) = omega (arith, size-text e (after_commas es []))
 pub sized-bounds : (e : Written) (es : WrittenList) → size_of (bounds_text (More e es)) ≡ sized e + size_of (bounds_text es) + 2
 sized-bounds e es = omega (arith, size-text e (token.Punctuator punctuator.CloseBracket ∷ bounds_text es []))
 
--- literals after literals
+-- literals grow within a bound
 grows-self : (literals : Literals) (size : ℕ) → TextsGrow literals literals size
 grows-self literals size = record { no_fewer = omega arith; no_more = omega arith }
 

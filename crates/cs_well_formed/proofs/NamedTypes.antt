@@ -204,7 +204,7 @@ module _ (c : Context) where
       lift-then LayingNames LayingNames (members_declared c base ds) (member_declared c base d before) (member_declared-named base d before h k)
       (λ laying m. members_declared-named base ds laying h m)
 
-  -- how parameters are passed
+  -- the adjusted types of parameters
   abbrev PassedNames : Passed → Type 0
   PassedNames found = NamesHere found.ty
 
@@ -275,7 +275,7 @@ given_shape-named P (Fault code place) h = tt
 
 -- ---- what is known after declarations
 
--- it names structs of its table, which is no shorter than before
+-- types name structs of the table, which is no shorter than before
 pub record NamedOn (k m : Environment) : Type 0 where
   pub known : KnownTypesAreNamed m.context
   pub longer : length (table_of k) ≤ length (table_of m)
@@ -286,7 +286,7 @@ named_on-self k h = record { known = h; longer = omega arith }
 pub named_on-trans : (k m n : Environment) → NamedOn k m → NamedOn m n → NamedOn k n
 named_on-trans k m n g h = record { known = h.known; longer = omega (arith, g.longer, h.longer) }
 
--- with one more struct, which has no members yet
+-- one more struct, which has no members yet
 module _ (k : Environment) (name : List ℕ) (h : KnownTypesAreNamed k.context) where
   abbrev longer_table : List StructType
   longer_table = table_of k ++ empty_struct name ∷ []
@@ -337,7 +337,7 @@ declaring-named : (name : List ℕ) (meaning : Meaning) (k : Environment) → Is
     → NamedOn k (declaring name meaning k)
 declaring-named name meaning k is h = record { known = declaring-known name meaning k is h; longer = omega arith }
 
--- in a new scope, and after one that ends (C11 6.2.1, paragraph 4)
+-- after a scope begins, and after one ends (C11 6.2.1, paragraph 4)
 pub entered-known : (k : Environment) → KnownTypesAreNamed k.context → KnownTypesAreNamed (entered k).context
 entered-known k h = record { declarations = h.declarations; tags = h.tags; members = h.members }
 
@@ -348,7 +348,7 @@ left-known before k h = record {
   members = h.members;
 }
 
--- ---- the words before declarators
+-- ---- the specifiers before declarators
 
 abbrev pub TypeNamed : Environment → Typing → Type 0
 TypeNamed k r = NamedOn k r.1 × NamesStructs (table_of r.1) r.0
@@ -508,7 +508,7 @@ words_type-named k at_tag at all (words.TheVariants.Struct' name shape row ∷ o
     (members_read-named o.known row nothing_laid g.0.known (All-nil (λ (m : Member). NamesStructs (table_of o.known) m.ty))))
 words_type-named k at_tag at all (words.TheVariants.Enum name constants comma ∷ others) h = enum_body-named k (tag_place at at_tag) name constants.items h
 
--- the words before declarators
+-- the specifiers before declarators
 pub specs_type-named : (k : Environment) (at : Place) (raw : RawSpecs) → KnownTypesAreNamed k.context → IfFine (specs_type k at raw) (TypeNamed k)
 specs_type-named k at raw h = words_type-named k raw.tag at (plain_words raw.words.items) raw.words.items h
 

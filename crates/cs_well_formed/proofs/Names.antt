@@ -61,7 +61,7 @@ mutual
   literals-begin literals (kind.Comma' place p first place' q second) =
       begins-trans _ _ _ (literals-begin literals first) (literals-begin (literals_after literals first) second)
 
-  -- the same of expressions in a row
+  -- the same for a list of expressions
   pub literals-begin_row : (literals : Literals) {n : _} (row : Row_of-RawExpr n) → Begins literals (literals_after_row literals row)
   literals-begin_row literals end_of-RawExpr = begins-self literals
   literals-begin_row literals (more_of-RawExpr place p k rest) =
@@ -99,7 +99,7 @@ newest-holds P name (d ∷ ds) h =
     option_or-some P (newest name ds) _ (newest-holds P name ds h.1) (cond_some-holds P (pointwise nat_eq d.name name) d.meaning h.0)
 
 module _ (s : Setting) (c : Context) (agrees : Agrees s c) where
-  -- what a name stands for is there
+  -- what a name denotes exists in the program
   pub newest-there : (name : List ℕ) → IfSome (newest name c.scope.declarations) (IsThere s)
   newest-there name = newest-holds (IsThere s) name c.scope.declarations
       (recursion_from_All (λ (d : Declaration). IsThere s d.meaning) c.scope.declarations agrees.declarations)
@@ -112,13 +112,13 @@ module _ (s : Setting) (c : Context) (agrees : Agrees s c) where
   function_in-there (Some (Local number ty)) h = tt
   function_in-there None h = tt
 
-  -- the function that is called is there
+  -- the function that is called exists in the program
   pub called-there : (k : RawExprKind) → IfSome (called c.scope.declarations k) (λ f. IsFunction s.program f.callee f)
   called-there (kind.Name name) = function_in-there (newest name c.scope.declarations) (newest-there name)
   called-there (kind.Parenthesis' place p inner) = called-there inner
   called-there other = tt
 
--- a name
+-- a name is well formed
 pub named-well : (s : Setting) (at : Place) (m : Option Meaning) → IfSome m (IsThere s) → IfFine (named at m) (IsWell s)
 unfolding named
 named-well s at (Some (Constant n)) h = (Int, refl, h)

@@ -28,7 +28,7 @@ module _ (s : Setting) (types : TypesAroundAreNamed s) where
   top : (e : Typed) → ExpressionNames s.program.table e → Names (type_of e)
   top (Of at ty form) h = h.0
 
-  -- a type that is that of an expression, and what its parts name
+  -- a type that is the type of an expression names structs
   as-type : (ty : Shape) (e : Typed) → type_of e ≡ ty → ExpressionNames s.program.table e → Names ty
   as-type ty e is h = named-as s.program.table ty (type_of e) (sym is) (top e h)
 
@@ -60,7 +60,7 @@ module _ (s : Setting) (types : TypesAroundAreNamed s) where
   block-named (array element count) h = h
   block-named (struct number) h = h
 
-  -- the type of a form, where those of its parts name structs
+  -- the type of an expression names structs, if those of its parts do
   type-named : (form : Form) (ty : Shape) → IsWellForm s ty form → PartsName s.program.table form → Names ty
   type-named (Number n) ty h parts = named-as s.program.table ty (integer h.0) h.1 tt
   type-named Null ty h parts = h.1
@@ -98,7 +98,7 @@ module _ (s : Setting) (types : TypesAroundAreNamed s) where
   type-named (Free e) ty h parts = named-as s.program.table ty void h.1 tt
 
   mutual
-    -- a well-formed expression
+    -- the types of a well-formed expression and of its parts name structs
     pub well-named : (e : Typed) → IsWell s e → ExpressionNames s.program.table e
     well-named (Of at ty form) h = let parts = parts-named form ty h in (type-named form ty h parts, parts)
 
@@ -140,7 +140,7 @@ module _ (s : Setting) (types : TypesAroundAreNamed s) where
     row-named NoMore h = tt
     row-named (Further e others) h = (well-named e h.0, row-named others h.1)
 
-  -- the type of a well-formed expression
+  -- its own type names structs
   pub type_of-named : (e : Typed) → IsWell s e → NamesStructs s.program.table (type_of e)
   type_of-named e h = top e (well-named e h)
 
@@ -148,7 +148,7 @@ module _ (s : Setting) (types : TypesAroundAreNamed s) where
   value-named e ty h is = as-type ty e is (well-named e h)
 
   mutual
-    -- a well-formed initializer
+    -- the types of a well-formed initializer name structs
     pub initial-named : (i : Initial) (ty : Shape) → IsWellInitial s ty i → InitialNames s.program.table i
     initial-named (Value v) ty h = well-named v h.0
     initial-named (Bytes bytes) ty h = tt
@@ -176,7 +176,7 @@ module _ (s : Setting) (types : TypesAroundAreNamed s) where
   first-named (Some i) ty h = initial-named i ty h
 
   mutual
-    -- a well-formed statement
+    -- the types of a well-formed statement name structs
     pub statement-named : (b : Statement) → IsWellStatement s b → StatementNames s.program.table b
     statement-named (Block at statements) h = statements-named statements h
     statement-named (Declare at number first) h = first-named first h.0.ty h.2
@@ -197,7 +197,7 @@ module _ (s : Setting) (types : TypesAroundAreNamed s) where
     statements-named Empty h = tt
     statements-named (Then first others) h = (statement-named first h.0, statements-named others h.1)
 
--- the types of a program of which all is well formed
+-- all types of a well-formed program name structs
 pub program-named : (p : TypedProgram) → TypesAreNamed p → All (IsWellGlobal p) p.globals → All (IsWellRoutine p) p.routines → AllTypesAreNamed p
 program-named p types globals routines = record {
   declared = types;

@@ -19,7 +19,7 @@ use Rattle.cs_scopes.specs.Sizes.{limited, bytes_in}
 use Rattle.cs_expressions.specs.Primary.{can_represent, first_representing, unsigned_types, decimal_types, other_types, constant_type}
 use Rattle.cs_ast.specs.HeldTokens.{IsHeldConstant}
 
--- every type holds the numbers to 127
+-- every integer type has the numbers up to 127
 pub small-InRange : (model : DataModel) (ty : IntType) (n : ℕ) → n ≤ 127 → InRange model ty (pos n)
 small-InRange Lp64 Long n h = record { from_least = omega (arith, ints); to_greatest = omega (arith, ints) }
 small-InRange Lp64 ULong n h = record { from_least = omega (arith, ints); to_greatest = omega (arith, ints) }
@@ -39,18 +39,18 @@ small-InRange model ULLong n h = record { from_least = omega (arith, ints); to_g
 least-zero : (model : DataModel) (ty : IntType) → least_of model ty ≤ℤ pos 0
 least-zero model ty = (small-InRange model ty 0 (omega arith)).from_least
 
--- a number that is at most the greatest one
+-- a number that is at most the greatest of its type
 upto-InRange : (model : DataModel) (ty : IntType) (n : ℕ) → pos n ≤ℤ greatest_of model ty → InRange model ty (pos n)
 upto-InRange model ty n h = record { from_least = above (least_of model ty) (least-zero model ty); to_greatest = h }
   where
     above : (low : ℤ) → low ≤ℤ pos 0 → low ≤ℤ pos n
     above low k = omega (arith, ints)
 
--- a character
+-- a character constant is a number of `int`
 pub character-InRange : (model : DataModel) (n : ℤ) → FitsSigned w32 n → InRange model Int n
 character-InRange model n h = record { from_least = omega (arith, ints, h); to_greatest = omega (arith, ints, h) }
 
--- the number of bytes of an object
+-- the size of an object is a number of the type of `sizeof`
 pub size-InRange : (model : DataModel) (n : ℕ) → n ≤ 2 ^ 20 → InRange model (size_type_of model) (pos n)
 size-InRange Lp64 n h = record { from_least = omega (arith, ints); to_greatest = omega (arith, ints) }
 size-InRange Ilp32 n h = record { from_least = omega (arith, ints); to_greatest = omega (arith, ints) }
@@ -83,7 +83,7 @@ bytes_in-small model table (array element count) n h =
 bytes_in-small model table (struct number) n h =
     option_and_then_some (λ (laid : StructType). limited laid.size) (complete_of table number) n h (λ laid _ is. limited-small laid.size n is)
 
--- the first type that can represent a number does, if the last one does
+-- if the last type can represent a number, so can the first one that is chosen
 first-InRange : (model : DataModel) (n : ℕ) (last : IntType) (types : List IntType) → InRange model last (pos n)
     → InRange model (first_representing model n last types) (pos n)
 first-InRange model n last [] h = h
@@ -97,7 +97,7 @@ first-InRange model n last (ty ∷ types) h = by_room (can_represent model ty n)
         under high k = grind (arith, ints)
     by_room false is rest = rest
 
--- an integer constant that is not too wide is a number of its type
+-- an integer constant that isn't too wide is a number of its type
 pub constant-InRange : (model : DataModel) (k : IntegerConstant) → IsHeldConstant k → InRange model (constant_type model k) (pos k.value)
 unfolding constant_type
 constant-InRange model k h = by_suffix k.unsigned refl k.decimal refl

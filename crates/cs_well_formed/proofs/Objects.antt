@@ -20,7 +20,7 @@ use Rattle.cs_well_formed.proofs.Verdicts.{IfFine, cond-then}
 use Rattle.cs_well_formed.proofs.Numbers.{size-InRange, bytes_in-small}
 
 module _ (s : Setting) (c : Context) (agrees : Agrees s c) where
-  -- what is complete where it is used is so in the program
+  -- a type that is complete where it is used is complete in the program
   pub complete-IsWhole : (ty : Shape) → is_complete c.table.list ty ≡ true → IsWhole s.program ty
   complete-IsWhole void h = absurd cc
   complete-IsWhole (integer ty) h = refl
@@ -49,7 +49,7 @@ module _ (s : Setting) (c : Context) (agrees : Agrees s c) where
   held-well at e (pointer target) well object is = load-well at e (pointer target) well object is refl
   held-well at e (struct number) well object is = load-well at e (struct number) well object is refl
 
-  -- the value of an expression
+  -- the value of a well-formed expression is well formed
   pub valued-well : (e : Typed) → IsWell s e → IfFine (valued c.table.list e) (λ v. IsWell s v × IsValue v)
   unfolding valued
   valued-well (Of at ty form) well =
@@ -66,7 +66,7 @@ module _ (s : Setting) (c : Context) (agrees : Agrees s c) where
   measure-well at (Some n) small = (_, refl, small n refl)
   measure-well at None small = tt
 
-  -- the size of a type
+  -- the size of a type is a well-formed expression
   pub measured-well : (at : Place) (ty : Shape) → IfFine (measured c.model c.table.list at ty) (IsWell s)
   unfolding measured
   measured-well at ty =

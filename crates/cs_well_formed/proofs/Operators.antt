@@ -54,7 +54,7 @@ alike-true (pointer t) u h = absurd cc
 alike-true (array t n) u h = absurd cc
 
 module _ (s : Setting) where
-  -- a value that is tested
+  -- a value that is tested is an integer or a pointer
   pub tested-well : (at : Place) (e : Typed) → IsWell s e → IsValue e → IfFine (tested at e) (λ v. IsWell s v × IsScalarValue v)
   unfolding tested
   tested-well at e well v = cond-then (λ r. IsWell s r × IsScalarValue r) (is_scalar (type_of e)) _ _ (λ h. (well, (v, scalar-true (type_of e) h)))
@@ -95,7 +95,7 @@ module _ (s : Setting) where
       (λ _. tt)
   ordered-well model op at left right t u w v w' v' = tt
 
-  -- a choice between two values
+  -- a conditional expression
   pub chosen-well : (model : DataModel) (at : Place) (test one other : Typed) (t u : Shape) → NamesStructs s.program.table t
       → NamesStructs s.program.table u → IsWell s test → IsScalarValue test → IsWell s one → IsValueOf one t →
       IsWell s other → IsValueOf other u → IfFine (chosen model at test one other t u) (IsWell s)
@@ -154,7 +154,7 @@ module _ (s : Setting) (c : Context) (agrees : Agrees s c) where
   subtracted-well at left right (pointer t) (pointer u) w v w' v' = apart-well at left right t u w v w' v'
   subtracted-well at left right t u w v w' v' = tt
 
-  -- an operator between two values
+  -- an operator on two values
   pub combined-well : (op : InfixOp) (at : Place) (left right : Typed) → IsWell s left → IsValue left → IsWell s right → IsValue right
       → IfFine (combined c.model c.table.list op at left right) (IsWell s)
   unfolding combined

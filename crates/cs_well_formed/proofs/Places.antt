@@ -22,7 +22,7 @@ use Rattle.cs_well_formed.specs.Agreement.{Agrees}
 use Rattle.cs_well_formed.proofs.Verdicts.{IfFine, lift-then, cond-then}
 use Rattle.cs_well_formed.proofs.Objects.{complete-IsWhole}
 
--- a member that is found by its name stands among the members
+-- a member found by its name is one of the members
 named-among : (name : List ℕ) (ms : List Member) (m : Member) → member_named name ms ≡ Some m → (i : ℕ) × (slice_get ms i ≡ Some m)
 named-among name [] m h = absurd cc
 named-among name (first ∷ ms) m h = by_name (pointwise nat_eq first.name name) h (named-among name ms m)
@@ -57,7 +57,7 @@ module _ (s : Setting) (c : Context) (agrees : Agrees s c) where
   indexed-well at left right (integer t) (pointer u) w v w' v' = element-well at right left u t AmountFirst w' v' w v
   indexed-well at left right t u w v w' v' = tt
 
-  -- a member of a struct is one of the program
+  -- a member found in a struct is one of the program
   member-found : (at : Place) (name : List ℕ) (number : ℕ)
       → IfFine (member_found at name (members_of c.table.list number)) (λ m. HasMember s.program number m.offset m.ty)
   unfolding member_found

@@ -33,7 +33,7 @@ use Rattle.cs_well_formed.proofs.Objects.{complete-IsWhole}
 use Rattle.cs_well_formed.proofs.Naming.{type_of-named}
 use Rattle.cs_well_formed.proofs.Conversions.{converted-well}
 
--- an object that may be updated: where it is a pointer, what it points to is whole
+-- an object that may be updated; if it is a pointer, it points to a complete type
 pub record IsUpdated (s : Setting) (e : Typed) : Type 0 where
   pub well : IsWell s e
   pub object : IsObject e
@@ -45,7 +45,7 @@ pub record IsAssigned (s : Setting) (e : Typed) : Type 0 where
   pub object : IsObject e
   pub held : IsHeld s.program (type_of e)
 
--- the same as far as the operators that store ask it of an object alone
+-- an object that may be updated, before its type is checked
 pub record IsUpdatable (s : Setting) (e : Typed) : Type 0 where
   pub well : IsWell s e
   pub object : IsObject e
@@ -55,7 +55,7 @@ pub record IsAssignable (s : Setting) (e : Typed) : Type 0 where
   pub object : IsObject e
   pub no_array : is_array (type_of e) ≡ false
 
--- what the left side of an operator that stores is
+-- the left operand of an assignment operator
 abbrev pub IsLeft : Setting → Bool → Typed → Type 0
 IsLeft s true e = IsAssignable s e
 IsLeft s false e = IsUpdatable s e
@@ -65,7 +65,7 @@ pub left-named : (s : Setting) (plain : Bool) (e : Typed) → TypesAroundAreName
 left-named s true e types h = type_of-named s types e h.well
 left-named s false e types h = type_of-named s types e h.well
 
--- a right operand is one of its operator in the type that the operator works in
+-- a converted right operand suits the operator in the type in which it computes
 taken-IsRight : (model : DataModel) (op : BinOp) (t u : IntType) (e : Typed) → IsValueOf e (integer (taken_in model op t u))
     → IsRight op (integer (works_in model op t u)) e
 taken-IsRight model Shl t u e v = (v.0, (_, v.1))
@@ -76,7 +76,7 @@ module _ (s : Setting) where
   one-well : (at : Place) (ty : IntType) → IsWell s (one_in at ty)
   one-well at ty = (ty, refl, small-InRange s.program.model ty 1 (omega arith))
 
-  -- a step of an object
+  -- `++` and `--`
   pub stepped-well : (model : DataModel) (op : BinOp) (gives : Gives) (at : Place) (object : Typed) (ty : Shape) → IsUpdated s object → HasType object ty
       → IfFine (stepped model op gives at object ty) (IsWell s)
   unfolding stepped
@@ -118,7 +118,7 @@ module _ (s : Setting) (c : Context) (agrees : Agrees s c) where
       (λ h. let to = stored-parts e h in record { well = well; object = to.0; no_array = to.1 })
       (λ _. tt))
 
-  -- an object of a type of which `=` asks no more is whole
+  -- an object whose type `=` accepts has a complete type
   complete-now : (ty : Shape) → assigned_fault c.table.list ty ≡ None → is_complete c.table.list ty ≡ true
   unfolding assigned_fault
   complete-now ty none = by_complete (is_complete c.table.list ty) none
@@ -144,7 +144,7 @@ module _ (s : Setting) (c : Context) (agrees : Agrees s c) where
       cond-then (IsUpdatable s) (is_additive op) _ _ (λ _. record { well = well; object = object }) (λ _. tt)
   updatable_as-well op at e ty well object = tt
 
-  -- the object of a compound assignment or a step
+  -- the object of a compound assignment, or of `++` and `--`
   updatable-well : (op : BinOp) (at : Place) (e : Typed) → IsWell s e → IfFine (updatable op at e) (IsUpdatable s)
   unfolding updatable
   updatable-well op at e well =
@@ -152,7 +152,7 @@ module _ (s : Setting) (c : Context) (agrees : Agrees s c) where
       (λ _. tt)
       (λ _. cond-then (IsUpdatable s) (is_stored_to e) _ _ (λ h. updatable_as-well op at e (type_of e) well (stored-parts e h).0) (λ _. tt))
 
-  -- a pointer of whose type no more is asked points to what is whole
+  -- a pointer whose type is accepted points to a complete type
   elements-whole : (ty target : Shape) → updated_fault c.table.list ty ≡ None → ty ≡ pointer target → IsWhole s.program target
   unfolding updated_fault
   elements-whole (pointer elements) target none is = by_complete (is_complete c.table.list elements) refl none
@@ -170,14 +170,14 @@ module _ (s : Setting) (c : Context) (agrees : Agrees s c) where
   updated-now e left none =
       record { well = left.well; object = left.object; elements = λ target is. elements-whole (type_of e) target none is }
 
-  -- the object of a step
+  -- the object of `++` and `--`
   pub steppable-well : (op : BinOp) (at : Place) (e : Typed) → IsWell s e → IfFine (steppable c.table.list op at e) (IsUpdated s)
   unfolding steppable
   steppable-well op at e well =
       lift-then (IsUpdatable s) (IsUpdated s) (moved_by_step c.table.list at) (updatable op at e) (updatable-well op at e well)
       (λ o left. weighed-then (IsUpdated s) at (updated_fault c.table.list (type_of o)) (Fine o) (λ none. updated-now o left none))
 
-  -- the left side of an operator that stores
+  -- the left operand of an assignment operator
   pub left_side-well : (op : AssignOp) (at : Place) (e : Typed) → IsWell s e → IfFine (left_side op at e) (IsLeft s (is_plain op))
   unfolding left_side
   left_side-well op at e well = by_plain (is_plain op)
@@ -186,7 +186,7 @@ module _ (s : Setting) (c : Context) (agrees : Agrees s c) where
       by_plain true = assignable-well at e well
       by_plain false = updatable-well (operator_of op) at e well
 
-  -- an operator that stores
+  -- an assignment operator
   stored-well : (op : AssignOp) (at : Place) (object value : Typed) → IsLeft s (is_plain op) object → IsWell s value → IsValue value
       → IfFine (stored c op at object value) (IsWell s)
   unfolding stored left_fault stored_by
@@ -202,7 +202,7 @@ module _ (s : Setting) (c : Context) (agrees : Agrees s c) where
       by_plain false left none =
           updated-well s c.model (operator_of op) at object value (type_of object) (type_of value) (updated-now object left none) refl well (v, refl)
 
-  -- the same of one whose right side may be refused
+  -- the same if the right operand may have a type error
   pub stored_to-well : (op : AssignOp) (at : Place) (right : Verdict Typed) (object : Typed) → IsLeft s (is_plain op) object
       → IfFine right (λ v. IsWell s v × IsValue v) → IfFine (stored_to c op at right object) (IsWell s)
   stored_to-well op at right object left given =

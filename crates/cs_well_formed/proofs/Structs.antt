@@ -25,11 +25,11 @@ keeps-trans one between other h k = record {
   longer = omega (arith, h.longer, k.longer);
 }
 
--- what holds of each of a list holds of what stands at a number
+-- what holds for each element of a list holds for the one at an index
 pub found-at : {A : Type 0} (P : A → Type 0) (xs : List A) (number : ℕ) (x : A) → All P xs → slice_get xs number ≡ Some x → P x
 found-at P xs number x held is = subst P (get_or_from_slice_get xs number x x is) (held number x (slice_get_within xs number x is))
 
--- a type that is one that names structs
+-- a type equal to one that names structs
 pub named-as : (table : List StructType) (ty other : Shape) → ty ≡ other → NamesStructs table other → NamesStructs table ty
 named-as table ty other is h = subst (NamesStructs table) (sym is) h
 

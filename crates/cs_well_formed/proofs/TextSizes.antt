@@ -23,7 +23,7 @@ pub text_size-append : (x y : Kinds) → text_size (x ++ y) ≡ text_size x + te
 text_size-append [] y = omega arith
 text_size-append (t ∷ x) y = omega (arith, text_size-append x y)
 
--- what is written so, and what stands after it
+-- a text, and the tokens after it
 pub size-following : (spell : Kinds → Kinds) → ((x y : Kinds) → spell x ++ y ≡ spell (x ++ y))
     → (rest : Kinds) → text_size (spell rest) ≡ size_of spell + text_size rest
 size-following spell law rest = ap text_size (sym (law [] rest)) ∙ text_size-append (spell []) rest
@@ -82,19 +82,19 @@ size-parameter p = size-following (parameter_text p) (parameter_append p)
 pub size-parameters : (ps : Parameters) (rest : Kinds) → text_size (parameters_text ps rest) ≡ size_of (parameters_text ps) + text_size rest
 size-parameters ps = size-following (parameters_text ps) (parameters_append ps)
 
--- a token has a size
+-- the size of a token is at least 1
 pub token-some : (t : TokenKind) → 1 ≤ token_size t
 token-some (token.Text bytes) = omega arith
 token-some other = omega arith
 
--- the nodes of two lists, one after the other, and of a list with one more
+-- the nodes of two lists joined, and of a list with one more element
 pub all_nodes-append : {T : Type 0} (count : T → ℕ) (xs ys : List T) → all_nodes count (xs ++ ys) ≡ all_nodes count xs + all_nodes count ys
 all_nodes-append count xs ys = ap sum (map-append count xs ys) ∙ sum_by-append (λ (n : ℕ). n) (map count xs) (map count ys)
 
 pub all_nodes-cons : {T : Type 0} (count : T → ℕ) (x : T) (xs : List T) → all_nodes count (x ∷ xs) ≡ count x + all_nodes count xs
 all_nodes-cons count x xs = sum_by-cons (λ (n : ℕ). n) (count x) (map count xs)
 
--- and of one with another element in the place of its own
+-- the nodes of a list with one element replaced
 pub all_nodes-set : {T : Type 0} (count : T → ℕ) (xs : List T) (i : ℕ) (y : T) → all_nodes count (set xs i y) ≤ all_nodes count xs + count y
 all_nodes-set count [] i y = omega arith
 all_nodes-set count (x ∷ xs) zero y = omega (arith, all_nodes-cons count x xs, all_nodes-cons count y xs)

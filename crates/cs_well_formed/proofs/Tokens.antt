@@ -14,7 +14,7 @@ use Rattle.cs_well_formed.specs.Constants.{HasConstants, HaveConstants, InitialH
 use Rattle.cs_ast.specs.HeldTokens.{IsHeldToken}
 use Rattle.cs_well_formed.specs.Tokens.{TextsHoldConstants, InitialTextsHoldConstants}
 
--- none of these tokens is too wide
+-- no token has a constant that is too wide
 abbrev pub AreHeld : Kinds → Type 0
 AreHeld tokens = AllByRecursion IsHeldToken tokens
 
@@ -76,7 +76,7 @@ following_comma true rest h = h.1
 following_comma false rest h = h
 
 mutual
-  -- the same of an initializer
+  -- the same for an initializer
   pub initial_text-held : (i : Initial) (rest : Kinds) → AreHeld (initial_text i rest) → InitialHasConstants i × AreHeld rest
   initial_text-held (Single e) rest h = text-held e rest h
   initial_text-held (Listed items comma) rest h = let some = initials_text-held items _ h.1 in (some.0, (following_comma comma _ some.1).1)

@@ -64,7 +64,7 @@ use Rattle.cs_well_formed.proofs.Calls.{AreGiven, parameters_of-named, call-well
 abbrev pub IsWellValue : Setting → Typed → Type 0
 IsWellValue s e = IsWell s e × IsValue e
 
--- literals after literals
+-- the literals after the left operand are among those after both
 both-first : (s : Setting) (literals : Literals) (left right : RawExprKind) → AreFirst s.program (literals_after (literals_after literals left) right)
     → AreFirst s.program (literals_after literals left)
 both-first s literals left right texts = first-part s.program (literals_after literals left) _ (literals-begin (literals_after literals left) right) texts
@@ -89,7 +89,7 @@ module _ (s : Setting) (c : Context) (agrees : Agrees s c) where
   number-well k fit =
       (constant_type c.model k, refl, subst (λ m. InRange m (constant_type c.model k) (pos k.value)) agrees.model (constant-InRange c.model k fit))
 
-  -- an operator before one operand
+  -- a prefix operator
   prefixed_value-well : (op : PrefixOp) (at : Place) (v : Typed) → IsWellValue s v → IfFine (prefixed_value c op at v) (IsWell s)
   unfolding prefixed_value
   prefixed_value-well prefix_op.Address at v held = address_of-well s at v held.0
@@ -127,7 +127,7 @@ module _ (s : Setting) (c : Context) (agrees : Agrees s c) where
       lift-then (IsWellValue s) (IsWell s) (λ v. recast c.model at v target (type_of v)) (cast_operand c target e) (cast_operand-well target e well)
       (λ v held. recast-well s c.model at v target (type_of v) names held.0 (held.1, refl))
 
-  -- the type to which the right side of an operator that stores goes
+  -- the type that an assignment operator requires of its right operand
   right_named : (op : AssignOp) (v : Verdict Typed) → IfFine v (IsLeft s (is_plain op)) → TargetNames s (right_target op v)
   right_named op v left = by_plain (is_plain op) v left
     where
@@ -136,7 +136,7 @@ module _ (s : Setting) (c : Context) (agrees : Agrees s c) where
       by_plain true (Fault code place) h = tt
       by_plain false v h = tt
 
-  -- a step
+  -- `++` and `--`
   step-well : (op : _) (gives : _) (at : Place) (v : Verdict Typed) → IfFine v (IsWell s)
       → IfFine (lift (stepped_object c op gives at) (lift (steppable c.table.list op at) v)) (IsWell s)
   step-well op gives at v well =
@@ -158,14 +158,14 @@ module _ (s : Setting) (c : Context) (agrees : Agrees s c) where
       (λ ty _. lift-then (λ _. Unit {0}) (IsWell s) (measured c.model c.table.list at) _ (if_fine-any _) (λ whole _. measured-well s c agrees at whole)))
       (if_fine-any bounds) (λ size _ well _. well)
 
-  -- operators on two operands
+  -- an operator on two operands
   infix-well : (op : InfixOp) (at : Place) (v w : Verdict Typed) → IfFine v (IsWellValue s) → IfFine w (IsWellValue s)
       → IfFine (between at (left_operand_fault c.table.list op) (combined c.model c.table.list op at) v w) (IsWell s)
   infix-well op at v w one other =
       between-then (IsWellValue s) (IsWellValue s) (IsWell s) at (left_operand_fault c.table.list op) (combined c.model c.table.list op at) v w one other
       (λ a b h k. combined-well s c agrees op at a b h.0 h.1 k.0 k.1)
 
-  -- one more argument
+  -- an argument and those after it
   further-given : (ty : Shape) (types : List Shape) (count : ℕ) (v : Verdict Typed) (w : Verdict TypedList) → IfFine v (IsWellValue s)
       → IfFine w (λ vs. length types ≡ count → AreGiven s types vs)
       → IfFine (lift2 further v w) (λ vs. length (ty ∷ types) ≡ suc count → AreGiven s (ty ∷ types) vs)

@@ -12,7 +12,7 @@ use Rattle.cs_consts.specs.Typing.{between}
 use Rattle.cs_declarations.specs.Sizes.{unless_refused}
 use Rattle.cs_declarations.specs.Parameters.{after_twice}
 
--- it holds of the value, if there is one
+-- the property holds of the value, if there is one
 abbrev pub IfFine : {A : Type 0} → Verdict A → (A → Type 0) → Type 0
 IfFine (Fine value) P = P value
 IfFine (Fault code place) P = Unit {0}
@@ -28,7 +28,7 @@ pub if_fine-any : {A : Type 0} (v : Verdict A) → IfFine v (λ a. Unit {0})
 if_fine-any (Fine a) = tt
 if_fine-any (Fault code place) = tt
 
--- of a rule on what others give
+-- a rule applied to a result of another
 pub lift-then : {A B : Type 0} (P : A → Type 0) (Q : B → Type 0) (rule : A → Verdict B) (v : Verdict A) → IfFine v P
     → ((a : A) → P a → IfFine (rule a) Q) → IfFine (lift rule v) Q
 unfolding lift
@@ -51,13 +51,13 @@ lift3-then P Q R S rule (Fine a) (Fine b) (Fault code place) first second third 
 lift3-then P Q R S rule (Fine a) (Fault code place) w first second third follows = tt
 lift3-then P Q R S rule (Fault code place) v w first second third follows = tt
 
--- of a choice by a test
+-- a choice by a condition
 pub cond-then : {A : Type 0} (P : A → Type 0) (test : Bool) (v w : Verdict A) → (test ≡ true → IfFine v P) → (test ≡ false → IfFine w P)
     → IfFine (cond test v w) P
 cond-then P true v w one other = one refl
 cond-then P false v w one other = other refl
 
--- of a verdict at whose place another code may hold, and of one after such a place
+-- a result at a position where another code may hold, and one after such a position
 pub weighed-then : (P : Typed → Type 0) (at : Place) (fault : Option TypeCode) (v : Verdict Typed) → (fault ≡ None → IfFine v P)
     → IfFine (weighed at fault v) P
 weighed-then P at None v held = held refl
@@ -69,7 +69,7 @@ led-then P at None v held = held
 led-then P at (Some first) (Fine e) held = held
 led-then P at (Some first) (Fault code place) held = tt
 
--- of an operator between two operands
+-- an operator on two operands
 pub between-then : (P Q R : Typed → Type 0) (at : Place) (asks : Shape → Option TypeCode) (rule : Typed → Typed → Verdict Typed) (v w : Verdict Typed)
     → IfFine v P → IfFine w Q → ((a b : Typed) → P a → Q b → IfFine (rule a b) R) → IfFine (between at asks rule v w) R
 unfolding between
@@ -77,7 +77,7 @@ between-then P Q R at asks rule (Fine a) w first second follows =
     lift-then Q R (rule a) (led at (asks (type_of a)) w) (led-then Q at (asks (type_of a)) w second) (λ b held. follows a b first held)
 between-then P Q R at asks rule (Fault code place) w first second follows = tt
 
--- of what comes after a place at which a code may hold
+-- a result after a position that may have a type error
 pub unless_fault-then : {A : Type 0} (P : A → Type 0) (at : Place) (fault : Option TypeCode) (v : Verdict A) → (fault ≡ None → IfFine v P)
     → IfFine (unless_fault at fault v) P
 unless_fault-then P at None v held = held refl
@@ -87,20 +87,20 @@ pub first-none : (code other : Option TypeCode) → least_code code other ≡ No
 first-none None other h = refl
 first-none (Some code) other h = absurd cc
 
--- of what a name declares, after which bounds stand
+-- what a name declares, if its bounds have no type error
 pub unless_refused-then : {A : Type 0} (P : A → Type 0) (refused : Option (TypeCode × Place)) (found : A) → P found
     → IfFine (unless_refused refused found) P
 unfolding lift
 unless_refused-then P None found held = held
 unless_refused-then P (Some fault) found held = tt
 
--- of what comes after a parameter whose name is declared a second time
+-- a result after a parameter whose name is declared twice
 pub after_twice-then : {A : Type 0} (P : A → Type 0) (twice : Option Place) (v : Verdict A) → IfFine v P → IfFine (after_twice twice v) P
 after_twice-then P twice (Fine value) held = held
 after_twice-then P None (Fault code place) held = tt
 after_twice-then P (Some at) (Fault code place) held = tt
 
--- tests that came out
+-- both operands of a true `&&` are true
 pub both_true : (a b : Bool) → (a && b) ≡ true → (a ≡ true) × (b ≡ true)
 both_true true true h = (refl, refl)
 both_true true false h = absurd cc

@@ -46,7 +46,7 @@ group_read-returns-clause-reported t c =
     (known_beside laying (λ l. Fine (record { laying = l; known = environment_of following })) body
     (members_declared following.context base group.declarators.items before) c.add_members.result following (λ l. refl) added)
 
--- members of groups, and of one of them, after what is so far
+-- the members of groups, and those of one group, after the members so far
 groups_read : List RawMember → Body → Verdict Body
 groups_read groups so_far = members_of_list so_far.known groups so_far.laying
 

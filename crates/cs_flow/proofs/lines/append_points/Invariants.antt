@@ -1,4 +1,4 @@
--- Printed so far: the lines of the control points before those that are left.
+-- Printed so far: the lines of the control points before the remaining ones.
 use Rattle.std.proofs.Common.{◌≡◌, ◌++◌, map}
 use Rattle.std.specs.List.{flat_map}
 use Rattle.std.specs.VecDeque.Iter.{deque_iter_rest}

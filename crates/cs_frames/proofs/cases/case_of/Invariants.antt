@@ -1,4 +1,4 @@
--- The cases before the index stand for other numbers.
+-- The cases before the index have other numbers.
 use Rattle.std.proofs.Common.{◌≡◌, drop}
 use Rattle.cs_meaning.specs.Statements as meaning
 use Rattle.cs_frames.proofs.cases.case_of.Given as goal

@@ -1,4 +1,4 @@
--- There are zeros alone, and not too many.
+-- There are only zeros, and not too many.
 use Rattle.std.proofs.Common.{◌≡◌, ◌≤◌, ◌-◌, length}
 use Rattle.std.specs.Prelude.{replicate}
 use Rattle.cs_frames.proofs.frames.zeros.Given as goal

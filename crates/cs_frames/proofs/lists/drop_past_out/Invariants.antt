@@ -1,4 +1,4 @@
--- `break` leads where it led.
+-- The target of `break` is the same.
 use Rattle.std.proofs.Common.{◌≡◌, length}
 use Rattle.cs_meaning.specs.Jumps.{broken_out}
 use Rattle.cs_run_state.specs.MachineView.{todo_of}

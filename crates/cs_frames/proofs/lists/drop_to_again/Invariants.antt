@@ -1,4 +1,4 @@
--- `continue` leads where it led.
+-- The target of `continue` is the same.
 use Rattle.std.proofs.Common.{◌≡◌, length}
 use Rattle.cs_meaning.specs.Jumps.{continued}
 use Rattle.cs_run_state.specs.MachineView.{todo_of}

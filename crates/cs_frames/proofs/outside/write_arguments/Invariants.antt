@@ -1,4 +1,4 @@
--- What the arguments before the number name was written, and the counts are kept.
+-- The objects that the arguments before the number name were written, and the counts are the same.
 use Rattle.std.proofs.Common.{◌≡◌, map, drop, length, ◌-◌}
 use Rattle.cs_ast.specs.TypedProgram.{typed_program}
 use Rattle.cs_events.specs.Acts.{Act}

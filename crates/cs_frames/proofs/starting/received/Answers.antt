@@ -20,7 +20,7 @@ use Rattle.cs_memory.specs.MemoryView.{memory_of}
 use Rattle.cs_objects.proofs.Pushing.{map-push}
 use Rattle.cs_frames.proofs.starting.received.Goals as goal
 
--- one more value of one more parameter
+-- one more parameter and its value
 more_values : (gives : Variable → machine.Operand) (made after : List Operand) (last : Operand) (locals : List Local) (i : ℕ) (local : Local)
     → i < length locals → local ≡ get_or locals i local → map operand_of made ≡ map gives (map variable (take i locals))
     → after ≡ made ++ last ∷ [] → operand_of last ≡ gives (variable local) → map operand_of after ≡ map gives (map variable (take (i + 1) locals))

@@ -1,4 +1,4 @@
--- The parameters before the index were received, and the blocks after the others are still to be added.
+-- The parameters before the index were received, and the start blocks of the others remain to be added.
 use Rattle.std.proofs.Common.{◌≡◌, map, take, drop}
 use Rattle.cs_ast.specs.TypedProgram.{typed_program, variable}
 use Rattle.cs_inputs.specs.Inputs.{number_at}

@@ -6,7 +6,7 @@ use Rattle.cs_inputs.proofs.InputTexts.{IsRight, right_err, accepts, refuses, ro
 use Rattle.cs_inputs.proofs.NumberTexts.{fits_machine}
 use Rattle.cs_inputs.proofs.input_text.parse.Goals as goal
 
--- the answer is right where the path is refused
+-- the result is right if the path is refused
 with_no_path : (c : goal.After-from_residual) → IsRight c.args.text.now c.from_residual.result
 with_no_path c = path_refused c.args.text.now c.split_before.result.0.now c.split_before.result.1.now c.in-Some.number.now c.in-Some.field-0-0.now
     c.split_before.ensures c.in-Some.ensures.cases.0 c.in_err-path.field-0.0 c.from_residual.result c.in_err-path.ensures c.from_residual.ensures.1
@@ -23,7 +23,7 @@ returns-in_err-path-clause-refuses c = refuses c.args.text.now c.from_residual.r
 pub returns-in_err-path-clause-round_trip : goal.returns-in_err-path-clause-round_trip
 returns-in_err-path-clause-round_trip c = round_trip c.args.text.now c.from_residual.result (with_no_path c)
 
--- it is right where the number is refused
+-- if the number is refused
 with_no_number : (c : goal.After-drop-path-in_err-number) → IsRight c.args.text.now c.from_residual-in_err-number.result
 with_no_number c = number_refused c.args.text.now c.split_before.result.0.now c.split_before.result.1.now c.in-Some.number.now c.in-Some.field-0-0.now
     c.split_before.ensures c.in-Some.ensures.cases.0 c.in_ok-path.path c.in_ok-path.ensures c.in_err-number.field-0.0 c.from_residual-in_err-number.result
@@ -41,7 +41,7 @@ returns-in_err-number-clause-refuses c = refuses c.args.text.now c.from_residual
 pub returns-in_err-number-clause-round_trip : goal.returns-in_err-number-clause-round_trip
 returns-in_err-number-clause-round_trip c = round_trip c.args.text.now c.from_residual-in_err-number.result (with_no_number c)
 
--- and it is right where both are read
+-- and if both are read
 with_both : (c : goal.In_ok-number) → SpellsInput c.args.text.now c.in_ok-path.path c.in_ok-number.number
 with_both c = input_is c.args.text.now c.split_before.result.0.now c.split_before.result.1.now c.in-Some.number.now c.in-Some.field-0-0.now
     c.split_before.ensures c.in-Some.ensures.cases.0 c.in_ok-path.path c.in_ok-path.ensures c.in_ok-number.number c.in_ok-number.ensures

@@ -1,4 +1,4 @@
--- The labels of the statements from the index on are still to be added.
+-- The labels of the statements from the index on remain to be added.
 use Rattle.std.proofs.Common.{◌≡◌, ℕ, ◌+◌, drop}
 use Rattle.std.specs.Option.{option_or}
 use Rattle.std.specs.BTreeMap.{get}

@@ -4,7 +4,7 @@ use Rattle.cs_objects.specs.BlockView.{change_of}
 use Rattle.cs_memory.proofs.Starts.{start_changed, start_stays}
 use Rattle.cs_memory.proofs.memory.change_start.Goals as goal
 
--- what follows from what holds where a call went well
+-- what follows from the result of a call that succeeds
 on_ok : {T E P Q : Type 0} (r : Result T E) → (P → Q) → OnOk r P → OnOk r Q
 on_ok (Ok x) f p = f p
 on_ok (Err e) f p = tt

@@ -1,4 +1,4 @@
--- If the pieces from the index on rise after the end of the one before, all do.
+-- If the pieces from the index on ascend from the end of the one before, all do.
 use Rattle.std.proofs.Common.{drop}
 use Rattle.std.specs.Prelude.{IsTrue}
 use Rattle.cs_objects.specs.PieceOrder.{ascends_from}

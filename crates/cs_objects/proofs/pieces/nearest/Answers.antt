@@ -6,7 +6,7 @@ use Rattle.cs_objects.specs.PieceOrder.{start_of}
 use Rattle.cs_objects.proofs.Searching.{all_past, nearest_alone, starts_rise}
 use Rattle.cs_objects.proofs.pieces.nearest.Goals as goal
 
--- a piece at or before the offset has those before it there too
+-- if the larger number is at most the offset, so is the smaller one
 at_or_before : (a b offset : ℕ) → a ≤ b → nat_le b offset ≡ true → nat_le a offset ≡ true
 at_or_before a b offset up below = grind (arith, nat_tests)
 

@@ -1,4 +1,4 @@
--- The struct begins in no member before the index. No more than so many structs hold one another.
+-- The struct begins in no member before the index. The remaining depth of nested structs decreases.
 use Rattle.std.proofs.Common.{◌≡◌, ◌+◌, ◌*◌, drop}
 use Rattle.cs_ast.specs.TypedProgram.{typed_program}
 use Rattle.cs_meaning.specs.Types.{some_member}

@@ -9,7 +9,7 @@ use Rattle.cs_run_state.specs.MachineView.{state_of}
 use Rattle.cs_run_log.proofs.Performing.{perform-Goes}
 use Rattle.cs_reference.proofs.acting.act_arrow.Goals as goal
 
--- the member's place is left in place of the pointer
+-- the address of the member replaces the pointer
 abbrev leaves : State → Cell → Act State
 leaves m cell = Goes (push_cell cell (pop m))
 

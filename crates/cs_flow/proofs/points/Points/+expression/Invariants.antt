@@ -1,4 +1,4 @@
--- The expressions that are left stand before those whose points were put.
+-- The remaining expressions come before those whose points were put.
 use Rattle.std.proofs.Common.{◌≡◌, ◌++◌, ◌+◌, ◌*◌, max}
 use Rattle.std.specs.Slice.Iter.{iter_rest}
 use Rattle.cs_ast.specs.declared.typed.expression.Expr.{size-Expr}

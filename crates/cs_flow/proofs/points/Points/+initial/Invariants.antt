@@ -1,4 +1,4 @@
--- The initializers that are left stand before those whose points were put.
+-- The remaining initializers come before those whose points were put.
 use Rattle.std.proofs.Common.{◌≡◌, ◌++◌}
 use Rattle.std.specs.Slice.Iter.{iter_rest}
 use Rattle.cs_ast.specs.TypedView.{initial_list}

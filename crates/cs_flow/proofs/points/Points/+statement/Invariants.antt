@@ -1,4 +1,4 @@
--- The statements that are left stand before those whose points were put.
+-- The remaining statements come before those whose points were put.
 use Rattle.std.proofs.Common.{◌≡◌, ◌++◌, ◌+◌, ◌*◌, max, map}
 use Rattle.std.specs.Slice.Iter.{iter_rest}
 use Rattle.cs_ast.specs.declared.typed.statement.Stmt.{size-Stmt}

@@ -1,4 +1,4 @@
--- The points that are left stand before those that were put.
+-- The remaining points come before those that were put.
 use Rattle.std.proofs.Common.{◌≡◌, ◌++◌}
 use Rattle.std.specs.VecDeque.{deque_len}
 use Rattle.cs_flow.specs.PointView.{points_of}

@@ -8,7 +8,7 @@ use Rattle.cs_inputs.specs.Inputs.{number_at}
 use Rattle.cs_inputs.proofs.InputNumbers.{in_order_either, then_OnOk, number_at-here, number_at-elsewhere}
 use Rattle.cs_inputs.proofs.inputs.Inputs.set.Goals as goal
 
--- what `put` made of the entries
+-- the entries after `put`
 changed : (c : goal.After-put) → OnOk c.put.result (c.put.new.entries.items ≡ insert_entry path_order c.self.inside.entries.items c.args.path c.args.number)
 changed c =
     let fits : FitsSigned w128 c.args.number = c.ranges.number in

@@ -8,7 +8,7 @@ use Rattle.cs_lower.specs.Building.{Has, blocks, built_of}
 use Rattle.cs_lower.proofs.Built.{whole, map_reverse, among_reversed}
 use Rattle.cs_lower.proofs.building.GraphBuilder.finish.Goals as goal
 
--- the blocks of the counted points the other way around, and then the others
+-- the blocks of the counted points in reverse order, then the others
 reversed : (heads others now turned : List Block) → turned ≡ reverse heads → now ≡ turned ++ others
     → map view.block now ≡ reverse (map view.block heads) ++ map view.block others
 reversed heads others now turned turns is =

@@ -1,4 +1,4 @@
--- The measures of the lowering of expressions: how deep the expression is, and after it which function has it.
+-- The measures of the lowering of expressions: the height of the expression, then the order of the functions for one expression.
 use Rattle.std.proofs.Common.{◌+◌, ◌*◌, ◌≤◌, length, max, drop}
 use Rattle.cs_ast.specs.TypedProgram.{typed_program}
 use Rattle.cs_ast.specs.TypedView.{typed_list}

@@ -28,7 +28,7 @@ invariant-lower_entries-loop-left l = record {
 abbrev pub decreases-lower_entries-loop-left : goal.decreases-lower_entries-loop-left
 decreases-lower_entries-loop-left l = l.left
 
--- The measures: how deep the statements are, and after that which function has them.
+-- The measures: the height of the statements, then the order of the functions for them.
 abbrev pub decreases-lower_statement : goal.decreases-lower_statement
 decreases-lower_statement l = 4 * size-Stmt l.s.now
 

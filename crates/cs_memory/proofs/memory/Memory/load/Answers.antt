@@ -14,7 +14,7 @@ use Rattle.cs_memory.specs.MemoryView.{memory_of}
 use Rattle.cs_run_log.proofs.Chains.{ends_following}
 use Rattle.cs_memory.proofs.memory.Memory.load.Goals as goal
 
--- what follows once the object was found
+-- the act after the object is found
 abbrev follows : Setting → Memory → ℕ → Access → (meaning.Memory → Operand → Act State) → Object → ℕ → Act State
 follows setting memory frame access onward object offset =
     let a = access_of access in

@@ -1,4 +1,4 @@
--- What was read stands before what is left to be read, and the counts are kept.
+-- The scalars before the index were read, and the counts are the same.
 use Rattle.std.proofs.Common.{◌≡◌, List, ◌++◌, map, drop}
 use Rattle.cs_ast.specs.TypedProgram.{typed_program}
 use Rattle.cs_events.specs.Acts.{Act}

@@ -1,4 +1,4 @@
--- The bytes before the index were written, and the counts are kept.
+-- The bytes before the index were written, and the counts are the same.
 use Rattle.std.proofs.Common.{◌≡◌, ◌+◌, drop, length, ◌-◌}
 use Rattle.cs_ast.specs.TypedProgram.{typed_program}
 use Rattle.cs_meaning.specs.Memory.{changed}

@@ -16,7 +16,7 @@ use Rattle.cs_memory.specs.MemoryView.{memory_of}
 use Rattle.cs_values.specs.View.{operand_of}
 use Rattle.cs_memory.proofs.memory.Memory.store.Goals as goal
 
--- what follows once the object was found
+-- the act after the object is found
 abbrev follows : Setting → Memory → ℕ → Place → Access → Operand → (meaning.Memory → Act machine.State) → Object → ℕ → Act machine.State
 follows setting memory frame at access operand onward object offset =
     let program = typed_program setting.program.now in

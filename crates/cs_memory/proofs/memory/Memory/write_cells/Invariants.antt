@@ -1,4 +1,4 @@
--- The scalars before the index were written, and the counts are kept.
+-- The scalars before the index were written, and the counts are the same.
 use Rattle.std.proofs.Common.{◌≡◌, map, drop, length, ◌-◌}
 use Rattle.cs_meaning.specs.Memory.{changed}
 use Rattle.cs_meaning.specs.Access.{write_cells}

@@ -6,7 +6,7 @@ use Rattle.cs_memory.specs.MemoryView.{memory_of}
 use Rattle.cs_memory.proofs.Reading.{written_read}
 use Rattle.cs_memory.proofs.memory.Memory.written_cells.Goals as goal
 
--- what follows of what was found
+-- a consequence for what is found
 on_found : {A E : Type 0} {P Q : A → Type 0} (r : Result (Option A) E) → ((x : A) → P x → Q x) → IfOk r (λ found. IfSome found P)
     → IfOk r (λ found. IfSome found Q)
 on_found (Ok (Some x)) f p = f x p

@@ -1,4 +1,4 @@
--- The cells of the offsets before this one were copied, and what is left stands in the map.
+-- The cells of the offsets before this one were copied, and the others are in the map.
 use Rattle.std.proofs.Common.{◌≡◌, ◌+◌, map, take, Some}
 use Rattle.std.specs.List.{All}
 use Rattle.std.specs.BTreeMap.{get}

@@ -10,7 +10,7 @@ use Rattle.cs_run_log.specs.LogView.{setting_of, log_of}
 use Rattle.cs_run_log.proofs.Performing.{perform-Goes, perform-Stops}
 use Rattle.cs_run_state.proofs.machine.Machine.use_result.Goals as goal
 
--- the use of a result is that of a value, before the machine goes on
+-- the use of a result is that of a value, before the machine continues
 use-act : (at : Place) (operand : Operand) (m : State) → use_result at operand m ≡ result_act at operand (Goes m)
 use-act at (Scalar cell) m = refl
 use-act at (Whole cells) m = refl
