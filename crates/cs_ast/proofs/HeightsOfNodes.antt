@@ -1,4 +1,4 @@
--- The heights of the nodes that hold a list, with the list in view: for the contracts of `height`.
+-- The heights of the nodes that contain a list, stated for the list: for the contracts of `height`.
 use Rattle.std.proofs.Common.{◌≡◌, Bool, ◌+◌, max, ap, ◌∙◌, Vec, Global}
 use Rattle.cs_ast.specs.declared.raw.written_type.WrittenType.{WrittenType}
 use Rattle.cs_ast.specs.declared.raw.expression.RawExpr.{RawExpr}

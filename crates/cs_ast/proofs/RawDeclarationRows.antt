@@ -21,7 +21,7 @@ members-row n (words.more_of-RawMember shape row tag declarators others) =
     ap (λ s. MoreMembers s (map declarator declarators.items) rest) (ap specs_list (words.items_shown-the_row-SpecWord-0 shape row) ∙ specs-row _ row)
     ∙ ap (MoreMembers (specs_row row) (map declarator declarators.items)) (members-row _ others)
 
--- the row of the members of a struct
+-- the members of a struct, as a row
 abbrev members_of : SpecWord → (n : Count) × words.Row_of-RawMember n
 members_of (words.TheVariants.Struct' tag shape row) = (_, row)
 members_of _ = (_, words.end_of-RawMember)
@@ -35,7 +35,7 @@ pub initials-row : (n : _) (row : first_value.Row_of-RawInitial n) → initials_
 initials-row n first_value.end_of-RawInitial = refl
 initials-row n (first_value.more_of-RawInitial first others) = ap (MoreItems (initial first)) (initials-row _ others)
 
--- the row of the items between braces
+-- the items between braces, as a row
 abbrev items_of : RawInitial → (n : Count) × first_value.Row_of-RawInitial n
 items_of (first_value.TheVariants.List' shape row comma) = (_, row)
 items_of _ = (_, first_value.end_of-RawInitial)

@@ -14,7 +14,7 @@ pub written-row : (n : _) (row : Row_of-RawExpr n) → written_list (items-the_r
 written-row n end_of-RawExpr = refl
 written-row n (more_of-RawExpr place p kind rest) = ap (More (written_kind kind)) (written-row _ rest)
 
--- the row of an expression's arguments or bounds
+-- the arguments or bounds of an expression, as a row
 abbrev pub row_of : RawExprKind → (n : Count) × Row_of-RawExpr n
 row_of (kind.Call' place p function shape row) = (_, row)
 row_of (kind.SizeOfType' ty shape row) = (_, row)

@@ -19,12 +19,12 @@ pub switch-row : (n : _) (row : kinds.Row_of-RawSwitchItem n) → switch_list (k
 switch-row n kinds.end_of-RawSwitchItem = refl
 switch-row n (kinds.more_of-RawSwitchItem first others) = ap (MoreSwitchItems (switch_item first)) (switch-row _ others)
 
--- the row of a block's items
+-- the items of a block, as a row
 abbrev pub block_of : RawStmtKind → (n : Count) × kinds.Row_of-RawItem n
 block_of (kind.Block' shape row) = (_, row)
 block_of _ = (_, kinds.end_of-RawItem)
 
--- the row of the items of a `switch`
+-- the items of a `switch`, as a row
 abbrev pub switch_of : RawStmtKind → (n : Count) × kinds.Row_of-RawSwitchItem n
 switch_of (kind.Switch' value shape row) = (_, row)
 switch_of _ = (_, kinds.end_of-RawSwitchItem)

@@ -31,18 +31,18 @@ pub statements-row : (n : _) (row : stmts.Row_of-Stmt n) → statement_list (stm
 statements-row n stmts.end_of-Stmt = refl
 statements-row n (stmts.more_of-Stmt place p k others) = ap (Then (statement_at place k)) (statements-row _ others)
 
--- the row of a call's arguments
+-- the arguments of a call, as a row
 abbrev arguments_of : ExprKind → (n : Count) × exprs.Row_of-Expr n
 arguments_of (kind.Call' function shape row) = (_, row)
 arguments_of (kind.Allocate' allocator shape row element) = (_, row)
 arguments_of _ = (_, exprs.end_of-Expr)
 
--- the row of a list's initializers
+-- the initializers of a list, as a row
 abbrev parts_of : initials.Initial → (n : Count) × initials.Row_of-Initial n
 parts_of (initials.TheVariants.List' shape row) = (_, row)
 parts_of _ = (_, initials.end_of-Initial)
 
--- the row of the statements of a block, of a `switch`, or of the first part of a `for`
+-- the statements of a block, of a `switch`, or of the first part of a `for`, as a row
 abbrev statements_of : StmtKind → (n : Count) × stmts.Row_of-Stmt n
 statements_of (statement_kind.Block' shape row) = (_, row)
 statements_of (statement_kind.For' shape row test last place p body) = (_, row)

@@ -1,5 +1,5 @@
--- An operation of the code acts on the newest temporaries as the machine's first thing to do acts on the newest values: it answers.
--- Calls are elsewhere. For the simulation.
+-- Each operation of the code does with the newest temporaries what the first thing to do does with the newest values. Calls are elsewhere.
+-- For the simulation.
 use Rattle.std.proofs.Common.{◌≡◌, ℕ, suc, ◌+◌, List, ◌∷◌, length, drop, Option, Some, None, arith, refl, ◌∙◌}
 use Rattle.cs_types.specs.Shape.{Shape}
 use Rattle.cs_ast.specs.declared.place.Place.{Place}
@@ -25,7 +25,7 @@ use Rattle.cs_cfg.proofs.Related.{CallersStand, Related}
 use Rattle.cs_cfg.proofs.Moving.{Home, onward, with_depth, leaves, Answer, Answered, worked_answers}
 
 module _ (code : Code) (program : TypedProgram) (budgets : RunBudgets) where
-  -- one more operand is there
+  -- one more operand
   pub leaves_one : (items : List Item) (m : State) (home : Home code program m.frame.function) (number : ℕ) (q : Point) (callers : List (CallFrame Point)) →
       onward code program home items (1 + number) q → CallersStand code program m.callers callers
       → Leaves (Related code program budgets) code program budgets (to_do items m) q callers (suc number)
@@ -56,7 +56,7 @@ module _ (code : Code) (program : TypedProgram) (budgets : RunBudgets) where
       uses_tell at (operand_at m 0) items m q callers
       (h (to_do items m) (record { function = refl; number = refl; todo = refl; visits = refl; callers = refl; deep = e })))
 
-  -- the right part of `&&` or `||` is made a truth
+  -- the right part of `&&` or `||` is converted to its truth value
   pub judge_answers : (at : Place) → Answered code program budgets (Judge at)
   judge_answers at items m home here callers s waiting =
       let R = Related code program budgets in
@@ -104,7 +104,7 @@ module _ (code : Code) (program : TypedProgram) (budgets : RunBudgets) where
       worked_answers code program budgets (Act (Of at ty form)) items m home at work 1 here callers s
       (λ number q e on. yields number q on e (leaves_one items m home number q callers on waiting))
 
-  -- what a call does with its arguments, which is proved elsewhere
+  -- what a call does with its arguments, which is proved in another file
   abbrev pub CallsTell : Type 0
   CallsTell = (at : Place) (callee count : ℕ) (items : List Item) (m : State) (home : Home code program m.frame.function) (q : Point)
       (callers : List (CallFrame Point)) (number : ℕ) →

@@ -1,4 +1,4 @@
--- The operation of the code does with its operands what an expression does with its parts.
+-- What an expression does with its parts, the code's operation does with its operands.
 use Rattle.std.proofs.Common.{◌≡◌, ℕ, zero, suc, ◌+◌, List, [], ◌∷◌, drop, length, Bool, true, false, Option, Some, None, arith, refl, ap}
 use Rattle.std.proofs.Common.{◌∙◌, unwrap_or}
 use Rattle.cs_types.specs.Shape.{Shape, integer}
@@ -49,7 +49,7 @@ as_code p callers m = record {
   calls = m.calls;
 }
 
--- a state with the same to be done, the same visits and the same callers, and with so many operands
+-- a state with the same things to do, the same visits and the same callers, and with so many operands
 pub record After (m next : State) (depth : ℕ) : Type 0 where
   pub function : next.frame.function ≡ m.frame.function
   pub number : next.frame.number ≡ m.frame.number
@@ -58,13 +58,13 @@ pub record After (m next : State) (depth : ℕ) : Type 0 where
   pub callers : next.callers ≡ m.callers
   pub deep : length next.frame.stack ≡ depth
 
--- without so many of the newest operands, the others are left
+-- without so many of the newest operands, the others remain
 pub dropped : (count number : ℕ) (operands : List Operand) → length operands ≡ count + number → length (drop count operands) ≡ number
 dropped zero number operands e = omega arith
 dropped (suc count) number [] e = absurd (omega arith)
 dropped (suc count) number (operand ∷ operands) e = dropped count number operands (omega arith)
 
--- the checks of a release let on alike
+-- the checks of a release yield the same if their continuations do
 module _ {S T : Type 0} (R : S → T → Type 0) where
   yields_at_beginning : (at : Place) (offset : ℤ) {a : Act S} {b : Act T} → Yields R a b → Yields R (at_beginning at offset a) (at_beginning at offset b)
   yields_at_beginning at offset h = yields_if R (int_eq offset (pos 0)) h both_stop
@@ -87,18 +87,18 @@ module _ {S T : Type 0} (R : S → T → Type 0) where
   yields_releasable at (LocalObject frame declaration) h = both_stop
 
 module _ (R : State → CodeState → Type 0) (code : Code) (program : TypedProgram) (budgets : RunBudgets) where
-  -- where a step leads to a state with so many operands, the code's state at a point is related to it
+  -- if a step leads to a state with so many operands, the code's state at a point is related to it
   abbrev pub Leaves : State → Point → List (CallFrame Point) → ℕ → Type 0
   Leaves m p callers depth = (next : State) → After m next depth → R next (as_code p callers next)
 
-  -- an operation reports what an expression does with its parts, where there are as many operands as it takes, and more
+  -- an operation yields the same as what an expression does with its parts, if there are at least as many operands as it takes
   abbrev pub YieldsBy : Place → Shape → Form → Option Work → State → Point → List (CallFrame Point) → ℕ → Type 0
   YieldsBy at ty form None m p callers number = ⊤
   YieldsBy at ty form (Some work) m p callers number =
       length m.frame.stack ≡ takes work + number → Leaves m p callers (suc number)
       → Yields R (act_form program budgets at ty form m) (do_work code program budgets at work (as_code p callers m))
 
-  -- an operand more in place of some others
+  -- one more operand in place of some others
   pub put : (m next : State) (p : Point) (callers : List (CallFrame Point)) (count number : ℕ) (operand : Operand) → length m.frame.stack ≡ count + number
       → Leaves m p callers (suc number) →
       next.frame.function ≡ m.frame.function → next.frame.number ≡ m.frame.number → next.frame.todo ≡ m.frame.todo
@@ -160,7 +160,7 @@ module _ (R : State → CodeState → Type 0) (code : Code) (program : TypedProg
       (λ memory. both_go (put m (push left (with_memory memory (pop_many count m))) p callers count number left e h refl refl refl refl refl refl))
 
   pub acts_tell : (at : Place) (ty : Shape) (form : Form) (m : State) (p : Point) (callers : List (CallFrame Point)) (number : ℕ) →
-      -- calls are proved elsewhere
+      -- calls are proved in another file
       ((function : ℕ) (arguments : TypedList) → YieldsBy at ty (Call function arguments) (work_of program ty (Call function arguments)) m p callers number)
       →
       YieldsBy at ty form (work_of program ty form) m p callers number

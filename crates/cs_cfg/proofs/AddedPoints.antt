@@ -28,7 +28,7 @@ module _ (program : TypedProgram) (flow : Flow) (routine : Routine) (labels : �
     → Point) {to : Targets} (counted_point : ℕ) (out again p q : Point) {following : Next} (aims : Aims program flow routine labels to out again)
     (m : MeetsNext flow q following)
     {old sealed : List Point} (end : AddsPoints flow [] (q ∷ old) sealed) where
-  -- the point after is made a block, to which the body jumps, and to which the test leads; then comes the body, then the test
+  -- the point after becomes a block, to which the body jumps and to which the test leads; then the body is built, then the test
   pub if_adds : (at : Place) (test : Typed) (body : Statement) (block : ℕ) {with_body new : List Point}
       (it : executes_at program flow routine labels (If at test body) counted_point out again p q) →
       AddsPoints flow (flows to body following) (jump_to block ∷ sealed) with_body
@@ -46,7 +46,7 @@ module _ (program : TypedProgram) (flow : Flow) (routine : Routine) (labels : �
         (starts_meet program flow routine labels body counted_point out again _ way.0 aims way.1 (joins_meet way.2 m)) (joins_meet it.3.1 m) made);
   }
 
-  -- the body of a loop goes back to the head, which is made a block last
+  -- the body of a loop jumps back to the head, which becomes a block last
   pub while_adds : (at : Place) (test : Typed) (body : Statement) (block : ℕ) {with_body with_test new : List Point}
       (it : executes_at program flow routine labels (While at test body) counted_point out again p q) →
       AddsPoints flow (flows (in_loop to following (met point.Head at)) body (met point.Head at)) (jump_to block ∷ sealed) with_body →
@@ -71,7 +71,7 @@ module _ (program : TypedProgram) (flow : Flow) (routine : Routine) (labels : �
         fit_jump block (last.keeps all includes_none (fit_point at 0 work loop.0 (includes_one includes) head_fits tested_so));
   }
 
-  -- the test is made a block, to which the body jumps
+  -- the test becomes a block, to which the body jumps
   pub do_adds : (at : Place) (body : Statement) (test : Typed) (block test_block : ℕ) {with_test with_body new : List Point}
       (it : executes_at program flow routine labels (Do at body test) counted_point out again p q) →
       AddsPoints flow (points test (met point.Branch at)) (split at 0 it.3.3.0 it.3.3.1 ∷ sealed) with_test →
@@ -98,7 +98,7 @@ module _ (program : TypedProgram) (flow : Flow) (routine : Routine) (labels : �
         fit_jump block (last.keeps all includes_none (fit_point at 0 work loop.0 (includes_one includes) (fits_passed 0 work loop.0 refl body_meets) made));
   }
 
-  -- each statement with a case is made a block, and the first one too, if nothing leads to it
+  -- each statement with a case becomes a block, and the first one too, if nothing leads to it
   pub switch_adds : (at : Place) (value : Typed) (cases : List Case) (statements : Statements) (block : ℕ) {with_statements new : List Point}
       (it : executes_at program flow routine labels (Switch at value cases statements) counted_point out again p q) →
       AddsPoints flow (flows_in (in_switch to following) statements following) (jump_to block ∷ sealed) with_statements →
@@ -126,7 +126,7 @@ module _ {flow : Flow} where
   for_test_adds at test one other m m' tests =
       record { keeps = λ all includes fit. tests.keeps all (includes_others includes) (fit_split at 0 one other (includes_one includes) m m' fit) }
 
-  -- a label, which is made a block
+  -- a label, which becomes a block
   pub label_adds : (at : Place) (label : ℕ) (body : Statement) (counted_point block : ℕ) (to : Targets) (inside q : Point)
       (following : Next) {old with_body new : List Point} → MeetsNext flow inside (starts to body following) →
       AddsPoints flow (flows to body following) (q ∷ old) (inside ∷ with_body)
@@ -140,7 +140,7 @@ module _ {flow : Flow} where
         (fits_passed 0 (graph.Reach point.Label counted_point) inside refl m) made));
   }
 
-  -- a `return`, where the point after was made a block
+  -- a `return`, where the point after has become a block
   pub return_adds : (at : Place) (value : Option Typed) (to : Targets) (q : Point) (following : Next) {old sealed new : List Point}
       → AddsPoints flow [] (q ∷ old) sealed →
       AddsPoints flow (points_some value (met point.Return at)) (does at 1 (graph.Meet point.Return) leaving ∷ sealed) new
@@ -152,7 +152,7 @@ module _ {flow : Flow} where
         (fit_point at 1 (graph.Meet point.Return) leaving (includes_one includes) (fits_last 1 (graph.Meet point.Return) leaving refl refl) last);
   }
 
--- all blocks of a graph fit, once it begins at the body, which was put before its end
+-- all blocks of a graph fit once it begins at the body, which was put before its end
 pub graph_fits : (program : TypedProgram) (flow : Flow) (routine : Routine) (body : Statement) (has_body : routine.body ≡ Some body)
     (lowers : LowersBody program routine body flow) {old built : List Point} (blocks : List Point) →
     AddsPoints flow (flows (body_targets routine) (body_of routine) (end_of routine)) (does routine.closes 0 (graph.Close lowers.nothing) leaving ∷ old)

@@ -1,4 +1,4 @@
--- Each operation does the same in two states if what comes after it does.
+-- Each operation yields the same for two states if its continuation does.
 use Rattle.std.proofs.Common.{ℕ, ◌+◌, ◌*◌, ℤ, pos, int_le, int_lt, int_eq, ◌&&◌, ◌||◌, Bool, true, false, List, [], ◌∷◌, Option, Some}
 use Rattle.std.proofs.Common.{None, unwrap_or, if◌then◌else◌}
 use Rattle.cs_types.specs.Shape.{Shape, void, integer, pointer, array, struct}
@@ -30,7 +30,7 @@ use Rattle.cs_meaning.specs.Operators.{NO_OFFSETS, convert, unmoved, move_null, 
 use Rattle.cs_meaning.specs.Machine.{Operand, Scalar, Whole, Nothing}
 
 module _ {S T : Type 0} (R : S → T → Type 0) where
-  -- continuations of one argument and of two that tell the same
+  -- continuations of one and of two arguments that yield the same
   abbrev pub Reported : {A : Type 0} → (A → Act S) → (A → Act T) → Type 0
   Reported {A = A} f g = (a : A) → Yields R (f a) (g a)
 
@@ -56,7 +56,7 @@ module _ {S T : Type 0} (R : S → T → Type 0) where
   yields_look at (NumberCell n) h = h
   yields_look at UnsetCell h = h
 
-  -- the checks let on what they let on alike
+  -- checks yield the same if their continuations do
   yields_not_null : (at : Place) (cell : Cell) {a : Act S} {b : Act T} → Yields R a b → Yields R (not_null at cell a) (not_null at cell b)
   yields_not_null at NullCell h = both_stop
   yields_not_null at (PointerCell object offset) h = h

@@ -1,4 +1,4 @@
--- A point with jumps to the code of the things to do: for jumps of the program and for consecutive statements.
+-- What is at a point where jumps lead to what is to be done: for jumps of the program and for lists of statements.
 use Rattle.std.proofs.Common.{ℕ, zero, suc, ◌+◌, List, ◌∷◌, refl}
 use Rattle.cs_ast.specs.TypedTree.{Statement, Statements, Empty, Then}
 use Rattle.cs_ast.specs.TypedProgram.{TypedProgram, Routine}
@@ -13,7 +13,7 @@ use Rattle.cs_cfg.proofs.Moving.{joins_on}
 use Rattle.cs_cfg.specs.Standing.{Following, loops_at, stands_at}
 
 module _ (program : TypedProgram) (flow : Flow) (routine : Routine) (labels : ℕ → Point) where
-  -- jumps alone lead to where the things to do stand
+  -- only jumps separate a point from the one that does the things to do
   abbrev pub Arrives : List Item → Point → Point → Following
   Arrives items out again depth p = (r : Point) × Joins program flow p r × stands_at program flow routine labels items out again depth r
 
@@ -34,7 +34,7 @@ module _ (program : TypedProgram) (flow : Flow) (routine : Routine) (labels : �
       → stands_at program flow routine labels (Out ∷ items) following again 0 following
   out_stands items following out again rest = (refl, refl, (out, rest))
 
-  -- statements in a row
+  -- a list of statements
   pub row_arrives : (statements : Statements) (counted_point : ℕ) (items : List Item) (out again p q : Point) →
       all_at program flow routine labels statements counted_point out again p q → Arrives items out again 0 q
       → Arrives (executes statements counted_point items) out again 0 p
@@ -53,7 +53,7 @@ module _ (program : TypedProgram) (flow : Flow) (routine : Routine) (labels : �
     ),
   )
 
-  -- the same from the statement with a number on
+  -- the same from the statement with a number
   pub rest_arrives : (number : ℕ) (statements : Statements) (counted_point : ℕ) (items : List Item) (out again p q : Point) →
       from_at program flow routine labels number statements counted_point out again p q → Arrives items out again 0 q
       → Arrives (executes_from number statements counted_point items) out again 0 p
@@ -62,7 +62,7 @@ module _ (program : TypedProgram) (flow : Flow) (routine : Routine) (labels : �
   rest_arrives (suc number) (Then first others) counted_point items out again p q it rest =
       rest_arrives number others (counted_point + counted_points first) items out again p q it rest
 
-  -- from the first statement on stand all of them
+  -- from the first statement: all of them
   pub from_first : (statements : Statements) (counted_point : ℕ) (out again p q : Point)
       → from_at program flow routine labels 0 statements counted_point out again p q
       → all_at program flow routine labels statements counted_point out again p q

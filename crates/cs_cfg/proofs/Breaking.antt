@@ -1,4 +1,4 @@
--- At the targets of `break` and `continue` is the code of what the reference machine has to do there (C11 6.8.6.2, 6.8.6.3).
+-- Where `break` and `continue` lead, the code does what the reference machine has to do there (C11 6.8.6.2, 6.8.6.3).
 use Rattle.std.proofs.Common.{◌≡◌, ℕ, List, [], ◌∷◌, Option, Some, None, refl, sym, subst}
 use Rattle.cs_ast.specs.declared.place.Place.{Place}
 use Rattle.cs_ast.specs.TypedTree.{Of, Form, And, Or, Choice, Update, Move, Statement, If, IfElse, While, Do, For, Switch}
@@ -12,7 +12,7 @@ use Rattle.cs_cfg.specs.Standing.{Following, worked, work_of, acts_by, fetches_f
 use Rattle.cs_cfg.specs.Executing.{finishing}
 use Rattle.cs_cfg.proofs.Arriving.{Arrives}
 
--- somewhere something stands
+-- the continuation holds at some point
 abbrev Somewhere : Following → Type 0
 Somewhere following = (depth : ℕ) × ((p : Point) × following depth p)
 
@@ -33,7 +33,7 @@ module _ (program : TypedProgram) (flow : Flow) where
   after_fetch at (Move a n direction gives) following depth p it = after_work _ _ _ following depth p it
   after_fetch at other following depth p it = absurd it
 
-  -- after both ways of `&&`, `||` and `?:`
+  -- after both edges of `&&`, `||` and `?:`
   after_choice : (at : Place) (form : Form) (following : Following) (depth : ℕ) (p : Point) → chooses_form program flow at form following depth p
       → Somewhere following
   after_choice at (And a b) following depth p it = (_, (it.5.0, it.5.3))
@@ -42,7 +42,7 @@ module _ (program : TypedProgram) (flow : Flow) where
   after_choice at other following depth p it = absurd it
 
   module _ (routine : Routine) (labels : ℕ → Point) where
-    -- the way of a test, or of a `switch`
+    -- the edge of a test, or of a `switch`
     after_decision : (s : Statement) (counted_point : ℕ) (out again : Point) (following : Following) (p : Point)
         → decides_at program flow routine labels s counted_point out again following p → Somewhere following
     after_decision (If at test body) counted_point out again following p it = (_, (it.5.0, it.5.3))
@@ -76,7 +76,7 @@ module _ (program : TypedProgram) (flow : Flow) where
     after_item (Give at) out again following depth p it = (_, it.2)
     after_item Leave out again following depth p it = (_, it.2)
 
-    -- what is left after the nearest loop or `switch` stands where `break` leads, and what is left after the body of the nearest loop
+    -- what remains after the nearest loop or `switch` is done where `break` leads, and what remains after the body of the nearest loop
     -- where `continue` does
     pub record Escapes (items : List Item) (out again : Point) : Type 0 where
       pub broken_outer : Point
@@ -86,7 +86,7 @@ module _ (program : TypedProgram) (flow : Flow) where
       pub continued_again : Point
       pub continues : Arrives program flow routine labels (continued items) continued_out continued_again 0 again
 
-    -- the same where something is to be done before, which is neither
+    -- the same with one more thing to do first, which is neither
     passes : (item : Item) (items : List Item) (out again : Point) → broken_out (item ∷ items) ≡ broken_out items
         → continued (item ∷ items) ≡ continued items → Escapes items out again → Escapes (item ∷ items) out again
     passes item items out again e f it = record {
@@ -98,7 +98,7 @@ module _ (program : TypedProgram) (flow : Flow) where
       continues = subst (λ rest. Arrives program flow routine labels rest it.continued_out it.continued_again 0 again) (sym f) it.continues;
     }
 
-    -- from where something stands on
+    -- from any point that does the things to do
     pub escapes : (items : List Item) (out again : Point) (depth : ℕ) (p : Point) → stands_at program flow routine labels items out again depth p
         → Escapes items out again
     escapes [] out again depth p it = record {

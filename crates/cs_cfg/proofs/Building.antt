@@ -1,4 +1,4 @@
--- Definitions for small graphs made by hand, and for how runs of code end compared with those of the reference machine.
+-- Notation for small hand-written graphs, and for how runs of code end compared with those of the reference machine.
 use Rattle.std.proofs.Common.{ℕ, true, false, Option, Some, None}
 use Rattle.cs_types.specs.Shape.{Shape}
 use Rattle.cs_ast.specs.TypedProgram.{TypedProgram}
@@ -13,7 +13,7 @@ use Rattle.cs_meaning.proofs.Building.{at}
 use Rattle.cs_cfg.specs.Graph.{Work, Operation, Code}
 use Rattle.cs_cfg.specs.CodeSteps.{code_step, code_start}
 
--- an operation at a column, on the temporaries from a number on
+-- an operation at a column, on the temporaries from a number
 abbrev pub does : ℕ → ℕ → Work → Operation
 does column temporary work = record { at = at column; temporary = temporary; work = work }
 
@@ -25,7 +25,7 @@ direct_local column ty declaration = record { at = at column; ty = ty; direct = 
 abbrev pub pointed : ℕ → Shape → Access
 pointed column ty = record { at = at column; ty = ty; direct = false; local = None }
 
--- how a run has ended, and with which log
+-- how a run has ended, and its log
 abbrev pub ended : {State : Type 0} → Performed State → Option (Outcome × Log)
 ended (Continues m log) = None
 ended (Finishes outcome log) = Some (outcome, log)
@@ -34,12 +34,12 @@ ended (Finishes outcome log) = Some (outcome, log)
 abbrev pub machine_run : TypedProgram → ℕ → ProgramRun → RunBudgets → ℕ → Option (Outcome × Log)
 machine_run program entry run budgets steps = ended (followed (step program budgets) (setting_of program run budgets) steps (start_of program entry run) empty)
 
--- the same of the run of code
+-- the same for the run of code
 abbrev pub code_run : Code → TypedProgram → ℕ → ProgramRun → RunBudgets → ℕ → Option (Outcome × Log)
 code_run code program entry run budgets steps =
     ended (followed (code_step code program budgets) (setting_of program run budgets) steps (code_start code program entry run) empty)
 
--- a run has ended so
+-- the outcome with which a run has ended
 abbrev pub outcome_of : Option (Outcome × Log) → Option Outcome
 outcome_of None = None
 outcome_of (Some ended) = Some ended.0

@@ -1,4 +1,4 @@
--- Calls of functions with and without a body do the same in related states. For the simulation.
+-- Calls of functions with and without a body do the same in the code and in the machine. For the simulation.
 use Rattle.std.proofs.Common.{◌≡◌, ℕ, suc, ◌+◌, nat_lt, Bool, true, false, List, [], ◌∷◌, length, drop, Option, Some, None}
 use Rattle.std.proofs.Common.{if◌then◌else◌, refl, sym, ap, subst}
 use Rattle.cs_types.specs.Shape.{Shape, void, integer, pointer, array, struct}
@@ -49,7 +49,7 @@ module _ {S T : Type 0} (R : S → T → Type 0) where
   yields_arguments program at call argument (true ∷ written) [] memory h = h memory
   yields_arguments program at call argument (false ∷ written) [] memory h = h memory
 
-  -- and gives a result
+  -- and returns a result
   yields_result : (program : TypedProgram) (ty : Shape) (call : ℕ) (memory : Memory) {f : Memory → Operand → Act S} {g : Memory → Operand → Act T}
       → ReportedOfTwo R f g →
       Yields R (outside_result program ty call memory f) (outside_result program ty call memory g)
@@ -63,7 +63,7 @@ module _ {S T : Type 0} (R : S → T → Type 0) where
   yields_result program (struct tag) call memory h =
       yields_receive R program memory (Unknown (result_path call) (struct tag)) (λ after cell. h after (Scalar cell))
 
--- as many frames wait
+-- equally many frames wait
 as_many : {code : Code} {program : TypedProgram} {frames : List Frame} {others : List (CallFrame Point)} → CallersStand code program frames others
     → length others ≡ length frames
 as_many nobody = refl
@@ -118,7 +118,7 @@ module _ (code : Code) (program : TypedProgram) (budgets : RunBudgets) where
       else Stops (Over Depth at)) in
       subst reported (sym (as_many waiting)) (yields_if R (nat_lt (length m.callers + 1) budgets.depth) (yields_shows R at _ (both_go related)) both_stop)
 
-  -- the one where there is a graph, and the other where there is none
+  -- the former if there is a graph, the latter if there is none
   routine_yields : (at : Place) (callee count : ℕ) (m : State) (home : Home code program m.frame.function) (q : Point) (callers : List (CallFrame Point))
       (number : ℕ) →
       IsPlaced code program → (body : Option Statement) (flow : Option Flow) → (routine_of program callee).body ≡ body → flow_of code callee ≡ flow

@@ -1,4 +1,4 @@
--- The ways of a `switch` are those of its cases with a value, and that of any other number (C11 6.8.4.2). For the control points of
+-- The edges of a `switch` are those of its cases with a value, and that of any other number (C11 6.8.4.2). For the control points of
 -- placed code.
 use Rattle.std.specs.Prelude.{◌⊎◌, Contains, slice_get}
 use Rattle.std.specs.List.{All}
@@ -26,7 +26,7 @@ use Rattle.cs_cfg.proofs.Showing.{GoesOn, Shows}
 abbrev pub chooses : Place → List SwitchCase → ℕ → Point
 chooses at ways otherwise = record { operations = []; end = graph.Switch at 0 ways otherwise }
 
--- what is left of the ways from the one with a number on
+-- the rest of the code's cases, from the one with a number
 record Left (ways : List SwitchCase) (number : ℕ) (left : List SwitchCase) : Type 0 where
   count : number + length left ≡ length ways
   same : (k : ℕ) → slice_get ways (number + k) ≡ slice_get left k
@@ -50,11 +50,11 @@ module _ (program : TypedProgram) (flow : Flow) (routine : Routine) (labels : �
     → Point) (to : Targets) (statements : Statements) (following : Next)
     (enters : (item : ℕ) → MeetsNext flow (entries item) (starts_from to item statements following)) where
   module _ (at : Place) (ways : List SwitchCase) (otherwise : ℕ) (rest : Next) (none : MeetsNext flow (block_of flow otherwise) rest) where
-    -- a way of a list is in the graph
+    -- each edge of a list is in the graph
     abbrev IsThere : List Way → Type 0
     IsThere them = All (GoesOn flow (chooses at ways otherwise) (switched at [])) them
 
-    -- the way of a case, if it has a value, and those of the others
+    -- the edge of a case, if it has a value, and those of the others
     one_there : (value : Option ℤ) (item number : ℕ) (left : List SwitchCase) (Others : List SwitchCase → Type 0) (others : ℕ → List Way)
         → Left ways number left →
         case_leads program flow routine labels entries value item left Others
@@ -88,14 +88,14 @@ module _ (program : TypedProgram) (flow : Flow) (routine : Routine) (labels : �
         (λ from. case_ways to cases from statements following rest) l it
         (λ from left' l' it'. all_there cases from left' l' it')
 
-    -- a `switch` is in the graph, with all of its ways
+    -- a `switch` is in the graph, with all of its edges
     pub shows_switched : (cases : List Case) → Kept program flow (chooses at ways otherwise) → cases_lead program flow routine labels entries cases ways →
         Shows flow (switched at (case_ways to cases 0 statements following rest))
     shows_switched cases kept it =
         let here : IsMet (chooses at ways otherwise) (the_point point.Switch at) = by_switch in
         record { there = chooses at ways otherwise; occurs = occurs kept here; meets = here; ways = all_there cases 0 ways (left_all ways) it }
 
-    -- the way of a list that a number of a case leads
+    -- the edge of a list that a number of a case takes
     abbrev Found : List Way → ℕ → SwitchCase → Type 0
     Found them number taken = (next : Next) × Contains them (way (CaseOf number) next) × MeetsNext flow (block_of flow taken.block) next
 
@@ -136,7 +136,7 @@ module _ (program : TypedProgram) (flow : Flow) (routine : Routine) (labels : �
         (λ from. case_ways to cases from statements following rest) it
         (λ from left' it' k' taken' is'. found cases from left' it' k' taken' is') k taken is
 
-    -- the way of any other number
+    -- the edge of any other number
     one_last : (value : Option ℤ) (item number : ℕ) (left : List SwitchCase) (Others : List SwitchCase → Type 0) (others : ℕ → List Way)
         → case_leads program flow routine labels entries value item left Others →
         ((from : ℕ) (after_it : List SwitchCase) → Others after_it → Contains (others from) (way (CaseOf (from + length after_it)) rest)) →
@@ -161,7 +161,7 @@ module _ (program : TypedProgram) (flow : Flow) (routine : Routine) (labels : �
         one_last one.value one.item number left (cases_lead program flow routine labels entries cases)
         (λ from. case_ways to cases from statements following rest) it (λ from left' it'. last_found cases from left' it')
 
-    -- a way out leads as one of them says
+    -- an edge that is taken is one of the list
     abbrev Says : List Case → Exit → Point → Type 0
     Says cases exit q = (next : Next) × Contains (case_ways to cases 0 statements following rest) (way exit next) × MeetsNext flow q next
 
@@ -179,7 +179,7 @@ module _ (program : TypedProgram) (flow : Flow) (routine : Routine) (labels : �
           same_meets one.1 none,
         )
 
-    -- a test of the number has no other ways
+    -- a test of the number has no other edges
     pub fits_switched : (cases : List Case) → cases_lead program flow routine labels entries cases ways
         → Fits flow (switched at (case_ways to cases 0 statements following rest)) (chooses at ways otherwise)
     fits_switched cases it = record { meets = by_switch; leads = λ exit q l. says exit q (leads_by l) }

@@ -1,5 +1,5 @@
--- The operation of an expression is no control point; `&&`, `||` and `?:` add only their own control points and ways, if the
--- point after them was made a block. For the builder of a graph.
+-- What an expression does with its parts is no control point; `&&`, `||` and `?:` add no control points but their own, if the point after
+-- has become a block, and their edges. For the builder of a graph.
 use Rattle.std.specs.Prelude.{⊤}
 use Rattle.std.proofs.Common.{◌≡◌, Option, Some, None, ℕ, pos, List, [], ◌∷◌, ◌++◌, refl}
 use Rattle.cs_types.specs.Shape.{Shape}
@@ -19,7 +19,7 @@ use Rattle.cs_cfg.proofs.Meeting.{judged_meets, known_meets, joined_meets}
 use Rattle.cs_cfg.proofs.Fitting.{includes_none, jump_to, fit_jump, fit_silent, includes_first, includes_second, includes_one, includes_others, fit_split}
 use Rattle.cs_cfg.proofs.Fitting.{adds_past}
 
--- an operation that may be there is no control point
+-- an operation, if there is one, is no control point
 abbrev pub IsSilent : Place → Option Work → Type 0
 IsSilent at None = ⊤
 IsSilent at (Some work) = met_in at work ≡ None
@@ -50,7 +50,7 @@ acts_silently program at ty (Allocate allocator arguments element) = refl
 acts_silently program at ty (Free a) = refl
 acts_silently program at ty other = tt
 
--- the use of a value, before further code
+-- the use of a value, before more code
 pub adds_use : {flow : Flow} {some : List ControlPoint} {old new : List Point} (e : Typed) (number : ℕ) (q : Point)
     → AddsPoints flow some (used_then e number q ∷ old) new → AddsPoints flow some (q ∷ old) new
 adds_use (Of at ty (Call function arguments)) number q rest = adds_past at number graph.Use q refl rest
@@ -58,7 +58,7 @@ adds_use (Of at ty other) number q rest = rest
 
 module _ (program : TypedProgram) (flow : Flow) (at : Place) (ty : Shape) (number block : ℕ) (following : Next) (p q : Point)
     (m : MeetsNext flow q following) {old sealed with_way with_both new : List Point} where
-  -- the point after is made a block, to which both ways jump; then comes the right part, then the truth that is known, then the left part
+  -- the point after becomes a block, to which both edges jump; then the right part is built, then the known truth, then the left part
   pub and_adds : (a b : Typed) (it : evaluates_form program flow at ty (And a b) number p q) → AddsPoints flow [] (q ∷ old) sealed →
       AddsPoints flow (points b following) (does at number graph.Judge (jump_to block) ∷ sealed) with_way
       → AddsPoints flow [] (does at number (graph.Number (pos 0)) (jump_to block) ∷ with_way) with_both →

@@ -1,4 +1,4 @@
--- The machine and the code's run take the same branch, which the first operand of `&&`, `||` or `?:` selects. For the simulation.
+-- The machine and the code's run take the same edge after the first part of `&&`, `||` or `?:`. For the simulation.
 use Rattle.std.proofs.Common.{◌≡◌, ℕ, suc, ◌+◌, ℤ, pos, Bool, true, false, not, if◌then◌else◌, List, ◌∷◌, length, drop, arith, refl}
 use Rattle.std.proofs.Common.{sym, ap, ◌∙◌, subst}
 use Rattle.cs_types.specs.Shape.{Shape}
@@ -39,7 +39,7 @@ module _ (code : Code) (program : TypedProgram) {function : ℕ} (home : Home co
   joined_stands (Of place ty form) items number p q placed s = (placed.0, placed.1, jumps_to code program home items (suc number) placed.2 s)
 
 module _ (code : Code) (program : TypedProgram) (budgets : RunBudgets) where
-  -- without the operand that was tested, the machine has this to do
+  -- the states after the tested operand is dropped are related
   tested : (items : List Item) (m : State) (home : Home code program m.frame.function) (number : ℕ) (p : Point) (callers : List (CallFrame Point)) →
       length m.frame.stack ≡ suc number → stands code program home items number p → CallersStand code program m.callers callers
       → Related code program budgets (to_do items (pop m)) (as_code p callers (pop m))
@@ -49,7 +49,7 @@ module _ (code : Code) (program : TypedProgram) (budgets : RunBudgets) where
       now (aligned code program (to_do items (pop m)) home p callers
       (with_depth code program home items p fewer (right_there code program home items number p s)) waiting)
 
-  -- the number is known: the code puts it down in a step of its own
+  -- the number is known: the code pushes it in a step of its own
   puts_known : (at : Place) (n : ℤ) (items : List Item) (m : State) (home : Home code program m.frame.function) (number : ℕ) (p q : Point)
       (callers : List (CallFrame Point)) →
       length m.frame.stack ≡ suc number → known program home.flow at n number p q → onward code program home items (suc number) q

@@ -1,4 +1,4 @@
--- A test selects the branch of a statement, and a number the case of a `switch`, in the simulation (C11 6.8.4).
+-- A test decides the edge of a statement, and a number the case of a `switch`, in the simulation (C11 6.8.4).
 use Rattle.std.proofs.Common.{◌≡◌, ℕ, suc, ◌+◌, Bool, true, false, List, ◌∷◌, length, drop, Option, if◌then◌else◌, arith, refl, sym}
 use Rattle.cs_ast.specs.declared.place.Place.{Place}
 use Rattle.cs_ast.specs.TypedTree.{Typed, Statement, If, IfElse, While, Do, For, Statements}
@@ -19,7 +19,7 @@ use Rattle.cs_cfg.proofs.Executed.{home_with}
 
 module _ (code : Code) (program : TypedProgram) (budgets : RunBudgets) (m : State) (home : Home code program m.frame.function)
     (callers : List (CallFrame Point)) (waiting : CallersStand code program m.callers callers) where
-  -- a test leads both to related states, in each of which `break` and `continue` may lead elsewhere
+  -- the point to which a test leads does the things to do, with targets of `break` and `continue` of its own
   abbrev pub Leads : List Item → Point → Type 0
   Leads items p = (out : Point) × ((again : Point) × onward code program (home_with code program budgets home out again) items 0 p)
 
@@ -37,7 +37,7 @@ module _ (code : Code) (program : TypedProgram) (budgets : RunBudgets) (m : Stat
       now (aligned code program (to_do (next holds) (pop m)) to block callers (with_depth code program to (next holds) block left (s holds).1.1) waiting))
 
   module _ (counted_point : ℕ) (items : List Item) (p : Point) (single : length m.frame.stack ≡ 1) where
-    -- the machine and the code's run answer one another where a statement's way is to be decided
+    -- the machine and the code's run simulate each other where the edge of a statement is to be decided
     abbrev Decides : Statement → Type 0
     Decides s = decides_at program home.flow (routine_of program m.frame.function) home.lowers.labels s counted_point home.out home.again
         (λ d q. onward code program home items d q) p →

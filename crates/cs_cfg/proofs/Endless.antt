@@ -1,4 +1,4 @@
--- If a spot is followed by more jumps than the function has blocks, they never end: for `Code::settled`.
+-- More jumps from a spot than the function has blocks never end: for `Code::settled`.
 use Rattle.std.specs.Prelude.{◌⊎◌}
 use Rattle.std.proofs.Common.{◌≡◌, ℕ, zero, suc, ◌+◌, ◌-◌, ◌<◌, ◌≤◌, nat_lt, Bool, true, false, Option, Some, None, inl, inr, refl}
 use Rattle.std.proofs.Common.{sym, ap, ◌∙◌, subst, arith, length}
@@ -28,7 +28,7 @@ count_most p (suc n) = added (p n) (count_most p n)
     added true l = omega arith
     added false l = omega arith
 
--- one that has it is counted
+-- a number with the property is counted
 counted : (p : ℕ → Bool) (n b : ℕ) → b < n → p b ≡ true → 1 ≤ count p n
 counted p zero b l h = absurd (omega arith)
 counted p (suc n) b l h = decided (λ below. counted p n b below h) (nat_lt b n) refl
@@ -45,7 +45,7 @@ counted p (suc n) b l h = decided (λ below. counted p n b below h) (nat_lt b n)
         subst (λ (first : Bool). 1 ≤ bit first + count p n) (sym one) (omega arith)
 
 module _ (p q : ℕ → Bool) (less : (b : ℕ) → q b ≡ true → p b ≡ true) where
-  -- a narrower property has no more
+  -- a narrower property has no more numbers
   fewer : (n : ℕ) → count q n ≤ count p n
   fewer zero = omega arith
   fewer (suc n) = both (q n) (p n) (less n) (fewer n)
@@ -79,9 +79,9 @@ module _ (p q : ℕ → Bool) (less : (b : ℕ) → q b ≡ true → p b ≡ tru
       both false false e f (inl l) = inl (omega arith)
       both false false e f (inr rest) = inr (wide (e ∙ sym f) rest)
 
--- a partial function from numbers, which is there for numbers below a bound alone
+-- a partial function on numbers, which is defined only below a bound
 module _ (next : ℕ → Option ℕ) (bound : ℕ) (inside : (b c : ℕ) → next b ≡ Some c → b < bound) where
-  -- it can be followed so often from a number
+  -- it can be applied so many times from a number
   abbrev lasts_with : Option Bool → Bool
   lasts_with None = false
   lasts_with (Some more) = more
@@ -90,7 +90,7 @@ module _ (next : ℕ → Option ℕ) (bound : ℕ) (inside : (b c : ℕ) → nex
   lasts zero b = true
   lasts (suc times) b = lasts_with (option_map (lasts times) (next b))
 
-  -- what it leads to once more
+  -- what it leads to, once more
   record Onward (times b : ℕ) : Type 0 where
     to : ℕ
     leads : next b ≡ Some to
@@ -106,7 +106,7 @@ module _ (next : ℕ → Option ℕ) (bound : ℕ) (inside : (b c : ℕ) → nex
   back : (times b c : ℕ) → next b ≡ Some c → lasts times c ≡ true → lasts (suc times) b ≡ true
   back times b c e h = ap (λ to. lasts_with (option_map (lasts times) to)) e ∙ h
 
-  -- then less often, too
+  -- then also one time fewer
   once_less : (times b : ℕ) → lasts (suc times) b ≡ true → lasts times b ≡ true
   once_less zero b h = refl
   once_less (suc times) b h =
@@ -119,7 +119,7 @@ module _ (next : ℕ → Option ℕ) (bound : ℕ) (inside : (b c : ℕ) → nex
       let same : often ≡ suc (more + times) = omega arith in
       less_often more times (more + times) b refl (once_less (more + times) b (subst (λ n. lasts n b ≡ true) same h))
 
-  -- where it can be followed so often, it can be followed once more
+  -- what can be applied so many times can be applied once more
   abbrev Steady : ℕ → Type 0
   Steady times = (b : ℕ) → lasts times b ≡ true → lasts (suc times) b ≡ true
 
@@ -141,7 +141,7 @@ module _ (next : ℕ → Option ℕ) (bound : ℕ) (inside : (b c : ℕ) → nex
       subst (λ n. lasts n b ≡ true) same
       (always more times (more + times) refl steady b (for_ever more times (more + times) b refl steady h))
 
-  -- it is steady after so many times, or few numbers are left from which it can be followed so often
+  -- it is steady after so many times, or few numbers remain from which it can be applied so many times
   found : (times : ℕ) → ((fewer : ℕ) × (fewer ≤ times) × Steady (suc fewer)) ⊎ (count (lasts (suc times)) bound + times ≤ bound)
   found zero = let most = count_most (lasts 1) bound in inr (omega arith)
   found (suc times) = after (found times) (drops (lasts (suc times)) (lasts (suc (suc times))) (once_less (suc times)) bound)
@@ -159,7 +159,7 @@ module _ (next : ℕ → Option ℕ) (bound : ℕ) (inside : (b c : ℕ) → nex
       after (inr few) (inl l) = inr (omega arith)
       after (inr few) (inr same) = inl (times, omega arith, steady same)
 
-  -- what can be followed more often than there are numbers below the bound can be followed for ever
+  -- what can be applied more times than there are numbers below the bound can be applied any number of times
   endless : (b : ℕ) → lasts (suc bound) b ≡ true → (times : ℕ) → lasts times b ≡ true
   endless b h times = decided (found bound)
     where
@@ -174,7 +174,7 @@ module _ (next : ℕ → Option ℕ) (bound : ℕ) (inside : (b c : ℕ) → nex
           let one = counted (lasts (suc bound)) bound b (inside b on.to on.leads) h in
           absurd (omega arith)
 
--- so many jumps lead from a spot to another
+-- so many jumps lead from one spot to another
 pub data Hops (code : Code) (spot : Spot) : Spot → ℕ → Type 0 where
   none : Hops code spot spot 0
   more : {middle last : Spot} {n m : ℕ} → Hops code spot middle n → jump_at code middle ≡ Some last → m ≡ n + 1 → Hops code spot last m
@@ -209,7 +209,7 @@ module _ (code : Code) where
           record { block = block; from = f; is = sym same }
 
   module _ (function : ℕ) where
-    -- where the blocks of a function jump at once
+    -- the block to which a block of the function jumps at once
     abbrev jump : ℕ → Option ℕ
     jump block = jump_from (point_of code (begins function block))
 
@@ -229,7 +229,7 @@ module _ (code : Code) where
     abbrev follows : ℕ → ℕ → Bool
     follows times block = lasts jump (block_count code function) inside times block
 
-    -- so many jumps lead on from a spot
+    -- so many jumps follow from a spot
     abbrev follows_at : ℕ → Spot → Bool
     follows_at zero spot = true
     follows_at (suc times) spot = lasts_with jump (block_count code function) inside (option_map (follows times) (jump_from (point_of code spot)))
@@ -267,11 +267,11 @@ module _ (code : Code) where
         let total : all ≡ n + suc times = omega arith in
         chain (suc times) all way total own (hop_back times middle last (own_function way own) e h)
 
-    -- after a jump
+    -- any number of jumps follow from a spot
     abbrev Always : Spot → Type 0
     Always spot = (times : ℕ) → follows_at times spot ≡ true
 
-    -- a jump, and what follows it
+    -- a jump, and the jumps after it
     record Hop (times : ℕ) (spot : Spot) : Type 0 where
       to : ℕ
       leads : jump_from (point_of code spot) ≡ Some to

@@ -1,4 +1,4 @@
--- The beginning of a function: the frame that the code enters represents the machine's. For the simulation.
+-- Where a function begins: the code's new frame represents the machine's. For the simulation.
 use Rattle.std.proofs.Common.{◌≡◌, ℕ, Some, unwrap_or, replicate, refl, sym, ap, ◌∙◌, subst}
 use Rattle.cs_ast.specs.TypedTree.{Statement, Block, Empty}
 use Rattle.cs_ast.specs.TypedProgram.{TypedProgram, Routine}
@@ -13,7 +13,7 @@ use Rattle.cs_cfg.specs.Placed.{LowersBody}
 use Rattle.cs_cfg.specs.Graph as graph
 use Rattle.cs_cfg.proofs.Related.{FrameStands}
 
--- a function with a body is executed by it
+-- the body of a function that has one is what `body_of` returns
 pub executed : (routine : Routine) (body : Statement) → routine.body ≡ Some body → body_of routine ≡ body
 executed routine body e = ap (λ some. unwrap_or some (Block routine.at Empty)) e
 

@@ -1,4 +1,4 @@
--- The point of an expression has the code of what evaluating it puts on the machine's list. For the simulation.
+-- What evaluating an expression puts on the machine's list is done at the point of the expression. For the simulation.
 use Rattle.std.proofs.Common.{◌≡◌, ℕ, suc, ◌+◌, List, ◌∷◌, length, arith, refl, sym, subst}
 use Rattle.cs_types.specs.Shape.{Shape, void, integer, pointer, array, struct}
 use Rattle.cs_ast.specs.declared.place.Place.{Place}
@@ -37,7 +37,7 @@ module _ (code : Code) (program : TypedProgram) {function : ℕ} (home : Home co
       onward code program home items (suc depth) q → worked at work 1 (onward code program home items) depth p
   leaf at work items depth p q none placed s = let e : depth ≡ takes work + depth = omega arith in works at work items depth depth p q e placed s
 
-  -- one part, and then an operation on it
+  -- one part, then an operation on it
   of_one : (a : Typed) (at : Place) (work : Work) (act : Item) (items : List Item) (depth : ℕ) (p q : Point) →
       ((number : ℕ) (r : Point) → worked at work 1 (onward code program home items) number r → stands code program home (act ∷ items) number r) →
       takes work ≡ 1 → used program home.flow a depth p (does at depth work q) → onward code program home items (suc depth) q
@@ -47,7 +47,7 @@ module _ (code : Code) (program : TypedProgram) {function : ℕ} (home : Home co
       let r = does at depth work q in
       (r, placed, right_there code program home (act ∷ items) (suc depth) r (acts (suc depth) r (works at work items (suc depth) depth r q e refl s)))
 
-  -- two parts, and then an operation on them
+  -- two parts, then an operation on them
   of_two : (a b : Typed) (at : Place) (work : Work) (act : Item) (items : List Item) (depth : ℕ) (p r q : Point) →
       ((number : ℕ) (r : Point) → worked at work 1 (onward code program home items) number r → stands code program home (act ∷ items) number r) →
       takes work ≡ 2 → used program home.flow a depth p r → used program home.flow b (suc depth) r (does at depth work q)
@@ -66,7 +66,7 @@ module _ (code : Code) (program : TypedProgram) {function : ℕ} (home : Home co
         ),
       )
 
-  -- expressions in a row
+  -- a list of expressions
   in_row : (arguments : TypedList) (items : List Item) (depth : ℕ) (p q : Point) → used_all program home.flow arguments depth p q →
       stands code program home items (count_all arguments + depth) q → stands code program home (lists.evaluates_all arguments items) depth p
   in_row NoMore items depth p q placed s =
@@ -81,7 +81,7 @@ module _ (code : Code) (program : TypedProgram) {function : ℕ} (home : Home co
             (in_row others items (suc depth) placed.0 q placed.2 (subst (λ d. stands code program home items d q) more s)),
       )
 
-  -- the same, and then an operation on them
+  -- the same, then an operation on them
   of_row : (arguments : TypedList) (at : Place) (work : Work) (act : Item) (items : List Item) (depth : ℕ) (p q : Point) →
       ((number : ℕ) (r : Point) → worked at work 1 (onward code program home items) number r → stands code program home (act ∷ items) number r) →
       count_all arguments ≡ takes work → used_all program home.flow arguments depth p (does at depth work q)
@@ -114,7 +114,7 @@ module _ (code : Code) (program : TypedProgram) {function : ℕ} (home : Home co
   converts at (struct tag) a items depth p q placed s =
       of_one a at (graph.Convert (type_of a) (struct tag)) (Act (Of at (struct tag) (Convert a))) items depth p q (λ n r w. w) refl placed s
 
-  -- the parts of an expression, and what is done with them
+  -- the parts of an expression, then what is done with them
   pub parts_stand : (at : Place) (ty : Shape) (form : Form) (items : List Item) (depth : ℕ) (p q : Point)
       → evaluates_form program home.flow at ty form depth p q →
       onward code program home items (suc depth) q → stands code program home (lists.evaluates (Of at ty form) items) depth p

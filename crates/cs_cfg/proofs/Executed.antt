@@ -1,5 +1,5 @@
--- The execution of a statement: the machine takes a silent step to the statement's parts, whose code is at the same point, or reaches a label;
--- the code's first step is a jump or one operation. For the simulation.
+-- Executing a statement: the machine silently continues with the statement's parts, which are at the same point, or reaches a label; the
+-- code begins with a jump or one operation. For the simulation.
 use Rattle.std.proofs.Common.{◌≡◌, ℕ, ◌+◌, nat_lt, List, [], ◌∷◌, length, Option, Some, None, slice_get, arith, refl, sym, ap, subst}
 use Rattle.cs_ast.specs.declared.place.Place.{Place}
 use Rattle.cs_ast.specs.declared.typed.statement.Case.{Case}
@@ -30,7 +30,7 @@ use Rattle.cs_cfg.proofs.Landings.{Landed, goto_lands, goto_goes_on, goto_jumps,
 use Rattle.cs_cfg.proofs.Breaking.{escapes}
 
 module _ (code : Code) (program : TypedProgram) (budgets : RunBudgets) where
-  -- the machine goes on silently to other things to do, which stand at the same point; no temporary is in use
+  -- the machine silently continues with other things to do, which are at the same point; no temporary is in use
   pub silently : (item : Item) (items rest : List Item) (m : State) (home : Home code program m.frame.function) (p : Point) (callers : List (CallFrame Point))
       → length m.frame.stack ≡ 0 →
       do_item program budgets item (to_do items m) ≡ Goes (to_do rest m) → onward code program home rest 0 p → CallersStand code program m.callers callers
@@ -45,7 +45,7 @@ module _ (code : Code) (program : TypedProgram) (budgets : RunBudgets) where
 
   module _ (m : State) (home : Home code program m.frame.function) (callers : List (CallFrame Point)) (waiting : CallersStand code program m.callers callers)
       (empty : length m.frame.stack ≡ 0) where
-    -- a counted point is reached alike
+    -- the machine and the code reach a counted point alike
     again_reached : (at : Place) (kind : PointKind) (counted_point : ℕ) (rest : List Item) (q : Point) → onward code program home rest 0 q
         → (count : Option ℕ) →
         Yields (Related code program budgets) (reached_again budgets at kind counted_point count (to_do rest m))
@@ -61,7 +61,7 @@ module _ (code : Code) (program : TypedProgram) (budgets : RunBudgets) where
         (reach_counted_point budgets at kind counted_point (as_code q callers m))
     counted_point_reached at kind counted_point rest q s = again_reached at kind counted_point rest q s (slice_get m.frame.visits counted_point)
 
-  -- the end of the body stands after it
+  -- the end of the body comes after it
   end_arrives : {function : ℕ} (home : Home code program function)
       → onward code program (home_with home finishing finishing) (at_end (routine_of program function)) 0 home.lowers.following
   end_arrives {function = function} home =
@@ -85,12 +85,12 @@ module _ (code : Code) (program : TypedProgram) (budgets : RunBudgets) where
   module _ (m : State) (home : Home code program m.frame.function) (callers : List (CallFrame Point)) (waiting : CallersStand code program m.callers callers)
       (empty : length m.frame.stack ≡ 0)
       (counted_point : ℕ) (items : List Item) (p q : Point) (rest : onward code program home items 0 q) where
-    -- the machine and the code's run answer one another where a statement is to be executed
+    -- the machine and the code's run simulate each other where a statement is to be executed
     abbrev Executes : Statement → Type 0
     Executes s = executes_at program home.flow (routine_of program m.frame.function) home.lowers.labels s counted_point home.out home.again p q
         → Answer code program budgets (to_do (Execute s counted_point ∷ items) m) (as_code p callers m)
 
-    -- the machine goes on to these things to do, and `break` and `continue` lead so
+    -- the machine continues with these things to do, with these targets of `break` and `continue`
     goes_to_parts : (s : Statement) (parts : List Item) (out again : Point)
         → do_item program budgets (Execute s counted_point) (to_do items m) ≡ Goes (to_do parts m)
         → onward code program (home_with home out again) parts 0 p →
@@ -140,7 +140,7 @@ module _ (code : Code) (program : TypedProgram) (budgets : RunBudgets) where
         home.again refl
         (p, there, (ways, it.3, (ways, there, (refl, (it.0, it.1, it.2, refl, it.4, it.5, it.6, outside)))))
 
-    -- a `goto` lands, or goes on
+    -- a `goto` lands, or continues
     pub goto_answers : (at : Place) (wanted : ℕ) (found : Option Landing)
         → landing wanted (body_of (routine_of program m.frame.function)) 0 (at_end (routine_of program m.frame.function)) ≡ found
         → Executes (Goto at wanted)

@@ -1,4 +1,4 @@
--- The instruction with a number in a block: for `Code::instruction_at`.
+-- What comes first at a number in a block: for `Code::instruction_at`.
 use Rattle.std.proofs.Common.{◌≡◌, ℕ, zero, suc, ◌+◌, ◌<◌, List, [], ◌∷◌, length, map, Some, None, Bor, arith, refl, sym, ap, ◌∙◌}
 use Rattle.std.specs.Prelude.{option_map, slice_get}
 use Rattle.std.specs.Slice.{IsItemAt}
@@ -9,7 +9,7 @@ use Rattle.cs_cfg.specs.Graph.{Operation, BlockEnd, Point, before, no_point}
 use Rattle.cs_cfg.specs.GraphView.{operation}
 use Rattle.cs_cfg.specs.Spots.{point_in_or}
 
--- an operation, and what is left after it
+-- an operation, and what remains after it
 inside : (operations : List Operation) (end : BlockEnd) (number : ℕ) (one : Operation) → slice_get operations number ≡ Some one →
     point_in_or (record { operations = operations; end = end }) number
     ≡ before one (point_in_or (record { operations = operations; end = end }) (number + 1))
@@ -39,7 +39,7 @@ past (first ∷ operations) end zero l = absurd (omega arith)
 past (first ∷ operations) end (suc number) l = past operations end number (omega arith)
 
 module _ (operations : List o.Operation) (end : BlockEnd) (number : ℕ) where
-  -- the same of operations that are lent
+  -- the same for borrowed operations
   abbrev seen : Point
   seen = record { operations = map operation operations; end = end }
 

@@ -1,5 +1,5 @@
--- All control points in the blocks of a graph fit those of a list, also after a step of building code from its end. For the
--- builder of a graph.
+-- All control points in the blocks of a graph keep fitting those of a list while code is built from its end. For the builder of a
+-- graph.
 use Rattle.std.specs.Prelude.{◌⊎◌, Contains, slice_get}
 use Rattle.std.specs.List.{All}
 use Rattle.std.proofs.Common.{◌≡◌, ℕ, true, false, List, [], ◌∷◌, ◌++◌, length, Some, None, if◌then◌else◌, arith, refl, sym, ap}
@@ -16,7 +16,7 @@ use Rattle.cs_cfg.specs.Fitting.{Fits, FitsSome, BlockFits, AllFit, Includes, Ad
 use Rattle.cs_cfg.specs.Placing.{does, split}
 use Rattle.cs_cfg.proofs.Keeping.{met_at, met_of, is_met}
 
--- where a way leads out of a point, by what the point does first
+-- the edges out of a point, by what the point does first
 abbrev pub LeadsBy : Flow → Met → List Operation → BlockEnd → Exit → Point → Type 0
 LeadsBy flow m (operation ∷ operations) end Onward q = (goes_on m.kind ≡ true) × (q ≡ record { operations = operations; end = end })
 LeadsBy flow m [] (Branch at temporary one other) (TruthOf holds) q = q ≡ block_of flow (if holds then one else other)
@@ -76,7 +76,7 @@ module _ {flow : Flow} where
       here Onward r it = absurd it
       here (CaseOf case) r it = absurd it
 
--- what is left of a block is all of it, or something of what is after its first operation
+-- the rest of a block is all of it, or part of what follows its first operation
 abbrev RestAfter : List Operation → BlockEnd → Point → Type 0
 RestAfter [] end p = ⊥
 RestAfter (operation ∷ operations) end p = IsRest (record { operations = operations; end = end }) p
@@ -105,7 +105,7 @@ module _ {flow : Flow} {points : List ControlPoint} where
           cc
       cases p m is (inr following) = fits.each p m following is
 
-  -- one that is a control point which fits
+  -- one that is a control point and fits
   pub block_point : {one : ControlPoint} (at : Place) (number : ℕ) (work : Work) (q : Point) → Contains points one → Fits flow one (does at number work q)
       → BlockFits flow points q → BlockFits flow points (does at number work q)
   block_point {one = one} at number work q among fit fits =
@@ -118,7 +118,7 @@ module _ {flow : Flow} {points : List ControlPoint} where
           (one, among, same, subst (Fits flow one) here fit)
       cases p m is (inr following) = fits.each p m following is
 
-  -- an end that is none, as a jump
+  -- an end that is no control point, as a jump
   pub block_end : (end : BlockEnd) → met_at [] end ≡ None → BlockFits flow points (record { operations = []; end = end })
   block_end end silent = record { each = λ p m rest is. cases p m is (rest_is [] end p rest.done rest.left rest.ends) }
     where
@@ -128,7 +128,7 @@ module _ {flow : Flow} {points : List ControlPoint} where
           cc
       cases p m is (inr following) = absurd following
 
-  -- one that is a control point which fits
+  -- one that is a control point and fits
   pub block_choice : {one : ControlPoint} (end : BlockEnd) → Contains points one → Fits flow one (record { operations = []; end = end })
       → BlockFits flow points (record { operations = []; end = end })
   block_choice {one = one} end among fit = record { each = λ p m rest is. cases p m is (rest_is [] end p rest.done rest.left rest.ends) }
@@ -153,7 +153,7 @@ module _ {flow : Flow} {points : List ControlPoint} where
   pub fit_others : {block : Point} {blocks : List Point} → AllFit flow points (block ∷ blocks) → AllFit flow points blocks
   fit_others {block = block} {blocks = blocks} fit = record { all = All-tail (BlockFits flow points) block blocks fit.all }
 
-  -- blocks that are among others, in whatever order
+  -- blocks that are among others, in any order
   pub fit_among : (some blocks : List Point) → All (Contains blocks) some → AllFit flow points blocks → AllFit flow points some
   fit_among some blocks among fit =
       record {
@@ -171,7 +171,7 @@ module _ {flow : Flow} {points : List ControlPoint} where
       AllFit flow points (q ∷ blocks) → AllFit flow points (does at number work q ∷ blocks)
   fit_point at number work q among fits fit = fit_more (block_point at number work q among fits (fit_first fit)) (fit_others fit)
 
--- a list with others among it has each part of them
+-- a list that includes others includes each part of them
 module _ {points : List ControlPoint} where
   pub includes_none : Includes points []
   includes_none = record { all = All-nil (Contains points) }
@@ -197,7 +197,7 @@ module _ {points : List ControlPoint} where
   pub includes_others : {one : ControlPoint} {others : List ControlPoint} → Includes points (one ∷ others) → Includes points others
   includes_others {one = one} {others = others} whole = record { all = All-tail (Contains points) one others whole.all }
 
--- a jump to a block, and nothing before it
+-- a jump to a block, without operations
 abbrev pub jump_to : ℕ → Point
 jump_to block = record { operations = []; end = Jump block }
 
@@ -207,7 +207,7 @@ module _ {flow : Flow} where
       → AllFit flow points (jump_to block ∷ blocks)
   fit_jump block fit = fit_more (block_end (Jump block) refl) fit
 
-  -- a test before them
+  -- a test before blocks that fit
   pub fit_split : {points : List ControlPoint} {blocks : List Point} {one_next other_next : Next} (at : Place) (number one other : ℕ)
       → Contains points (tested at one_next other_next) →
       MeetsNext flow (block_of flow one) one_next → MeetsNext flow (block_of flow other) other_next → AllFit flow points blocks
@@ -227,13 +227,13 @@ module _ {flow : Flow} where
       → AddsPoints flow [] (q ∷ blocks) (does at number work q ∷ blocks)
   adds_silent at number work q silent = record { keeps = λ points includes fit. fit_silent at number work q silent fit }
 
-  -- one after another: what is done first is met last, since code is put together from its end
+  -- one after another: what is done first is added last, since code is built from its end
   pub adds_both : {xs ys : List ControlPoint} {old between new : List Point} → AddsPoints flow ys old between → AddsPoints flow xs between new
       → AddsPoints flow (xs ++ ys) old new
   adds_both {xs = xs} {ys = ys} later sooner =
       record { keeps = λ points includes fit. sooner.keeps points (includes_first xs ys includes) (later.keeps points (includes_second xs ys includes) fit) }
 
-  -- the same where one of them brings in nothing
+  -- the same if one of them adds nothing
   pub nothing_then : {some : List ControlPoint} {old between new : List Point} → AddsPoints flow [] old between → AddsPoints flow some between new
       → AddsPoints flow some old new
   nothing_then first rest = record { keeps = λ points includes fit. rest.keeps points includes (first.keeps points includes_none fit) }
@@ -242,7 +242,7 @@ module _ {flow : Flow} where
       → AddsPoints flow some old new
   then_nothing first rest = record { keeps = λ points includes fit. rest.keeps points includes_none (first.keeps points includes fit) }
 
-  -- an operation that is no control point, before further code
+  -- an operation that is no control point, before more code
   pub adds_past : {some : List ControlPoint} {old new : List Point} (at : Place) (number : ℕ) (work : Work) (q : Point) → met_in at work ≡ None →
       AddsPoints flow some (does at number work q ∷ old) new → AddsPoints flow some (q ∷ old) new
   adds_past at number work q silent rest = nothing_then (adds_silent at number work q silent) rest

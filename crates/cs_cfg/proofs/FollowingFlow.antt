@@ -1,5 +1,5 @@
--- Runs of the lowering of a program follow its flow: for the law `lowered_code_follows_flow`. After a control point, each frame
--- with its number is at a point where the graph reaches next what the flow names; frames called in between have other numbers.
+-- Runs of the lowering of a program follow its flow: for the law `lowered_code_follows_flow`. After a control point was left, each frame
+-- with its number is where the graph's next control point is the one of the flow; frames that are called in between have other numbers.
 use Rattle.std.specs.Prelude.{⊤, ◌<◌, ◌≤◌, ◌⊎◌, Contains}
 use Rattle.std.proofs.Common.{◌≡◌, ℕ, true, List, [], ◌∷◌, map, inl, inr, Option, Some, None, unwrap_or, arith, refl, sym, ap, ◌∙◌}
 use Rattle.std.proofs.Common.{subst}
@@ -29,7 +29,7 @@ use Rattle.cs_cfg.proofs.FrameSteps.{Stand, stand_of, stands_of, LeadsTo, Moves,
 use Rattle.cs_cfg.proofs.LeavingPoints.{leaves_from}
 
 module _ {flow : Flow} where
-  -- the control point at which a point stands is the one that is met next from there
+  -- the control point that a point is, is the next one from there
   named : {p : Point} {next : Next} {other : Met} → MeetsNext flow p next → met_of p ≡ Some other → next ≡ Some other
   named (here is) e = sym (is_met is) ∙ e
   named (past silent way) e = absurd (nothing_there (sym silent ∙ e))
@@ -39,7 +39,7 @@ module _ {flow : Flow} where
   named (past_jump way) e = cc
   named never e = cc
 
--- where what is met next is met, after what stands first at a point that is no control point
+-- the next control point after an operation or end that is none
 abbrev Further : Flow → List Operation → BlockEnd → Next → Type 0
 Further flow (operation ∷ operations) end next = MeetsNext flow (record { operations = operations; end = end }) next
 Further flow [] (Jump block) next = MeetsNext flow (block_of flow block) next
@@ -53,13 +53,13 @@ further (past_jump way) quiet = way
 further never quiet = tt
 
 module _ (code : Code) where
-  -- a frame of a run stands in the graph of its function, or has left it by a jump to a block that isn't there
+  -- a frame of a run is in the graph of its function, or has left it by a jump to a missing block
   record InGraph (one : Stand) : Type 0 where
     flow : Flow
     has_flow : flow_of code one.function ≡ Some flow
     place : Occurs flow one.here ⊎ (one.here ≡ no_point)
 
-  -- the numbers of frames fall from the one that runs down to the first, below a bound
+  -- the numbers of frames descend from the running frame to the first, below a bound
   abbrev InOrder : ℕ → List Stand → Type 0
   InOrder bound [] = ⊤
   InOrder bound (one ∷ others) = (one.number < bound) × InGraph one × InOrder one.number others
@@ -112,7 +112,7 @@ module _ (code : Code) where
   moved_in_order (jumps {f = f} {n = n} block to) h = (h.0, block_in_graph f n block h.1.flow h.1.has_flow, h.2)
   moved_in_order (leaves {frames = frames} {one = one} {others = others}) h = let below = h.0 in weaker others one.number frames (omega arith) h.2
 
-  -- what is so of the points of functions, and stays so where the run goes on from a point that is no control point
+  -- a property of the points of functions that is kept when the run continues from a point that is no control point
   record IsCarried (At : ℕ → Point → Type 0) : Type 0 where
     by_work : (function : ℕ) (operation : Operation) (operations : List Operation) (end : BlockEnd)
         → At function (record { operations = operation ∷ operations; end = end })
@@ -122,21 +122,21 @@ module _ (code : Code) where
         → ((one : Met) → met_of (record { operations = []; end = end }) ≡ Some one → ⊥) → At function (block_in code function block)
 
   module _ (frame : ℕ) (At : ℕ → Point → Type 0) where
-    -- it is so of each frame of this number
+    -- it holds for each frame with this number
     abbrev AllWait : List Stand → Type 0
     AllWait [] = ⊤
     AllWait (one ∷ others) = (one.number ≡ frame → At one.function one.here) × AllWait others
 
-    -- the frame that runs, if it has this number, stands at no control point
+    -- the running frame, if it has this number, is at no control point
     abbrev IsQuiet : List Stand → Type 0
     IsQuiet [] = ⊤
     IsQuiet (one ∷ others) = one.number ≡ frame → (met_now : Met) → met_of one.here ≡ Some met_now → ⊥
 
-    -- it is so of a frame that begins, if it has this number
+    -- it holds for a frame that begins, if it has this number
     abbrev Begins : ℕ → Type 0
     Begins frames = (function : ℕ) (flow : Flow) → flow_of code function ≡ Some flow → frames ≡ frame → At function (block_of flow flow.entry)
 
-    -- frames with lesser numbers are others
+    -- frames with lesser numbers are different ones
     others_wait : (stands : List Stand) (bound : ℕ) → bound ≤ frame → InOrder bound stands → AllWait stands
     others_wait [] bound l h = tt
     others_wait (one ∷ others) bound l h =
@@ -153,7 +153,7 @@ module _ (code : Code) where
     moved_waiting carried leaves begins quiet h = h.1
 
   module _ (goal : ℕ → Next) where
-    -- the graph of a function meets next what is said of the function
+    -- the next control point from a point in the graph of a function is the goal for the function
     abbrev MeetsGoal : ℕ → Point → Type 0
     MeetsGoal function p = (flow : Flow) × (flow_of code function ≡ Some flow) × MeetsNext flow p (goal function)
 
@@ -173,7 +173,7 @@ module _ (code : Code) where
       by_jump = jumps_on;
     }
 
-  -- there are no fewer frames later
+  -- there are never fewer frames later
   later_frames : {frames later : ℕ} {stands others : List Stand} → Moves code frames stands later others → frames ≤ later
   later_frames works = omega arith
   later_frames (calls callee graph e) = omega arith
@@ -188,7 +188,7 @@ module _ (code : Code) where
         in_order way (moved_in_order (moves code program budgets setting m next log later e) h)
 
     module _ (frame : ℕ) (At : ℕ → Point → Type 0) (carried : IsCarried At) where
-      -- one step on which the frame with this number touches no control point
+      -- one step in which the frame with this number touches no control point
       waits_on : (m next : CodeState) (log later : Log) → perform setting log (code_step code program budgets m) ≡ Continues next later
           → (m.frame.number ≡ frame → (one : Met) → TouchesPoint (code_step code program budgets) setting m log one → ⊥)
           → Begins frame At m.frames → AllWait frame At (stands_of m) → AllWait frame At (stands_of next)
@@ -196,7 +196,7 @@ module _ (code : Code) where
           moved_waiting frame At carried (moves code program budgets setting m next log later e) begins
           (λ same one is. quiet same one (touches_there code program budgets setting m next log later one is e)) h
 
-      -- it stays so of a frame that has begun until it touches one
+      -- it keeps holding for a frame that has begun until the frame touches one
       waits_until : {m last : CodeState} {log end : Log} → LeadsPast (code_step code program budgets) setting frame m log last end → frame < m.frames
           → AllWait frame At (stands_of m) → AllWait frame At (stands_of last)
       waits_until stays_past l h = h
@@ -204,7 +204,7 @@ module _ (code : Code) where
           let grows = later_frames (moves code program budgets setting m on log later e) in
           waits_until way (omega arith) (waits_on m on log later e quiet (λ function flow has_flow same. absurd (omega arith)) h)
 
-      -- and of one of which it is so when it begins
+      -- and for one for which it holds at its beginning
       waits_from : {m last : CodeState} {log end : Log} → ((frames : ℕ) → Begins frame At frames)
           → LeadsPast (code_step code program budgets) setting frame m log last end → AllWait frame At (stands_of m)
           → AllWait frame At (stands_of last)
@@ -216,7 +216,7 @@ module _ (code : Code) where
       points_of : (function : ℕ) (flow : Flow) → flow_of code function ≡ Some flow → HasPoints flow (control_points (routine_of program function))
       points_of function flow e = subst (ReadsOff (routine_of program function)) e (lowered.flows function)
 
-      -- the frame that runs stands in the graph, since it stands at a control point
+      -- the running frame is in the graph, since it is at a control point
       stands_in : (flow : Flow) (p : Point) (one : Met) → met_of p ≡ Some one → Occurs flow p ⊎ (p ≡ no_point) → Occurs flow p
       stands_in flow p one is (inl occurs) = occurs
       stands_in flow p one is (inr none) = let wrong : None ≡ Some one = sym (ap met_of none) ∙ is in absurd cc
@@ -255,7 +255,7 @@ module _ (code : Code) where
                 (stands_at_point code program budgets setting last end other touched_next),
           )
 
-  -- the run of an entry begins in order
+  -- the run of an entry begins with frames in order
   begins_in_order : (program : TypedProgram) (entry : ℕ) (body : Statement) (run : ProgramRun) → HasGraphs code program
       → (routine_of program entry).body ≡ Some body → InOrder 1 (stands_of (code_start code program entry run))
   begins_in_order program entry body run graphs e =
@@ -280,12 +280,12 @@ module _ (code : Code) where
         (in_order program budgets (setting_of program run budgets) way (begins_in_order program entry body run lowered.graphs has_body)) touches on e;
   }
 
--- where jumps alone lead from a point to the end of the frame
+-- only jumps separate a point from the end of the frame
 module _ (code : Code) (program : TypedProgram) where
   abbrev EndsAt : ℕ → Point → Type 0
   EndsAt function p = (flow : Flow) × (flow_of code function ≡ Some flow) × Joins program flow p leaving
 
-  -- what is after such a point
+  -- what follows such a point
   abbrev Ending : Flow → List Operation → BlockEnd → Type 0
   Ending flow [] (Jump block) = Joins program flow (block_of flow block) leaving
   Ending flow [] (Return temporary) = ⊤
@@ -316,7 +316,7 @@ module _ (code : Code) (program : TypedProgram) where
       jumps_to_end function (Return temporary) block to it quiet = absurd to
       jumps_to_end function Finish block to it quiet = absurd to
 
-  -- a frame that has come to its end touches no control point any more
+  -- a frame that has reached its end touches no more control points
   pub code_ends_there : (budgets : RunBudgets) (entry : ℕ) (body : Statement) (run : ProgramRun) → HasGraphs code program
       → (routine_of program entry).body ≡ Some body → (m last : CodeState) (log end : Log) (one : Met) (flow : Flow)
       → Leads (code_step code program budgets) (setting_of program run budgets) (code_start code program entry run) empty m log

@@ -41,7 +41,7 @@ use Rattle.cs_cfg.proofs.FollowingFlow.{code_ends_there}
 use Rattle.cs_cfg.proofs.PointTouches.{none_added}
 
 module _ {S T : Type 0} (R : S → T → Type 0) (setting : Setting) where
-  -- where one act goes on, so does one that does the same
+  -- if one act continues, so does one that does the same
   abbrev GoesToo : Log → S → Performed T → Type 0
   GoesToo later next done = (t : T) × (done ≡ Continues t later) × R next t
 
@@ -90,7 +90,7 @@ module _ {S T : Type 0} (R : S → T → Type 0) (setting : Setting) where
       logs_if (allows_event setting log) _ _ _ log (same_logs (with_access log at object offset) same)
   same_logs log (both_touch {touch = touch} same) = same_logs (with_touch log touch) same
 
--- an act that only goes on touches nothing, and continues with the same log
+-- an act that does nothing but continue touches nothing, and keeps the log
 quiet_act : {S : Type 0} (setting : Setting) (log : Log) (act : Act S) (next : S) (one : Met) → act ≡ Goes next
     → (log_of (perform setting log act)).touches ≡ log.touches ++ Meets one.kind one.at ∷ [] → ⊥
 unfolding perform
@@ -101,7 +101,7 @@ only_goes : {S : Type 0} (setting : Setting) (log : Log) (act : Act S) (next : S
 unfolding perform
 only_goes setting log act next e = ap (perform setting log) e
 
--- to leave a frame touches nothing
+-- leaving a frame touches nothing
 leaves_quietly : (setting : Setting) (callers : List Frame) (value : Operand) (m : State) (log : Log) (one : Met)
     → (log_of (perform setting log (leave_to callers value m))).touches ≡ log.touches ++ Meets one.kind one.at ∷ [] → ⊥
 unfolding perform
@@ -118,13 +118,13 @@ module _ (code : Code) (program : TypedProgram) (budgets : RunBudgets) (setting 
   abbrev theirs : CodeState → Act CodeState
   theirs = code_step code program budgets
 
-  -- where the code's run touches a control point, the frame that runs is the machine's
+  -- if the code's run touches a control point, its running frame is the machine's
   same_frame : {m : State} {t : CodeState} (log : Log) (one : Met) → R m t → TouchesPoint theirs setting t log one
       → (t.frame.number ≡ m.frame.number) × (t.frame.function ≡ m.frame.function)
   same_frame log one (now aligned) touches = (aligned.frame.number, aligned.frame.function)
   same_frame log one (soon {t = t} {next = next} e related) touches = absurd (quiet_act setting log (theirs t) next one e touches)
 
-  -- a step of the machine, and the steps of the code's run that answer it
+  -- a step of the machine, and the steps of the code's run that simulate it
   steps_too : {m : State} {t : CodeState} (log later : Log) (next : State) → Answers R ours theirs m t
       → perform setting log (ours m) ≡ Continues next later → (u : CodeState) × Leads theirs setting t log u later × R next u
   steps_too {t = t} log later next (alone {s = m} {next = quiet} e related) went =
@@ -178,7 +178,7 @@ module _ (code : Code) (program : TypedProgram) (budgets : RunBudgets) (setting 
           yields = on.yields;
         }
 
-    -- the way of the code's run that answers one on which a frame touches nothing
+    -- two parts of the code's run on which a frame touches nothing, joined
     joined : {frame : ℕ} {t middle last : CodeState} {log between end : Log} → LeadsPast theirs setting frame t log middle between
         → LeadsPast theirs setting frame middle between last end → LeadsPast theirs setting frame t log last end
     joined stays_past way = way
@@ -220,7 +220,7 @@ module _ (code : Code) (program : TypedProgram) (budgets : RunBudgets) (setting 
         let rest = past_too frame on.0 way on.2 in
         (rest.0, joined on.1 rest.1, rest.2)
 
-    -- what the code's frame touches next the machine's does
+    -- what the code's frame touches next, the machine's does too
     next_too : (frame : ℕ) (next : State) (u : CodeState) (later : Log) (way : Way) → R next u → TouchesNext theirs setting frame u later way
         → TouchesNext ours setting frame next later way
     next_too frame next u later way related touches_next = λ last end other past same touches.
@@ -260,7 +260,7 @@ module _ (code : Code) (program : TypedProgram) (budgets : RunBudgets) (setting 
         ap (λ f. the_point point.Enter (routine_of program f).at) (sym at.function)
         ∙ begins.begins at.last log one (subst (λ n. LeadsPast theirs setting n other empty at.last log) (sym at.number) past) at.touches
 
-    -- after a touch that ends a function the machine has only to leave the frame
+    -- after a touch that ends a function, the machine has only to leave the frame
     after_item : (item : Item) (items : List Item) (m next : State) (log later : Log) (one : Met) → IsLast program item
         → (log_of (perform setting log (do_item program budgets item (to_do items m)))).touches ≡ log.touches ++ Meets one.kind one.at ∷ []
         → perform setting log (do_item program budgets item (to_do items m)) ≡ Continues next later
@@ -290,7 +290,7 @@ module _ (code : Code) (program : TypedProgram) (budgets : RunBudgets) (setting 
             let wrong : true ≡ false = sym (one_midway setting log (Meets one.kind one.at) never touches) ∙ off in
             absurd cc
 
-    -- the code's run has come there, or comes there silently, and touches no control point of the frame any more
+    -- the code's run is there, or gets there silently, and touches no more control points of the frame
     ended : (entry : ℕ) (body : Statement) (run : ProgramRun) → setting ≡ setting_of program run budgets → (routine_of program entry).body ≡ Some body
         → (frame : ℕ) (next : State) {u : CodeState} (later : Log) (v : CodeState) (end : Log) (other : Met) → R next u
         → next.frame.todo ≡ Leave ∷ [] → next.frame.number ≡ frame → Leads theirs setting (code_start code program entry run) empty u later

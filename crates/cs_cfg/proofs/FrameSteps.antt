@@ -1,4 +1,4 @@
--- The frames after a step of the code's run: the current frame is at the next point, calls another, or ends. For the laws
+-- Where a step of the code's run leaves its frames: the running frame moves to the next point, calls another, or is left. For the laws
 -- `lowered_code_follows_flow` and `programs_follow_flow`.
 use Rattle.std.specs.Prelude.{⊤}
 use Rattle.std.proofs.Common.{◌≡◌, ℕ, ◌+◌, nat_lt, ℤ, Bool, true, false, List, [], ◌∷◌, length, map, Option, Some, None}
@@ -42,7 +42,7 @@ use Rattle.cs_cfg.proofs.Onward.{keeps_convert_number, keeps_convert, keeps_sum,
 use Rattle.cs_cfg.proofs.OnwardCalls.{keeps_arguments, keeps_result, keeps_within_depth, keeps_at_beginning, keeps_not_freed, keeps_known, keeps_releasable}
 
 module _ {S : Type 0} where
-  -- an act that goes on in no other states than those of which something is so
+  -- an act that continues only in states with a property
   data GoesIn (So : S → Type 0) : Act S → Type 0 where
     goes : {s : S} → So s → GoesIn So (Goes s)
     stops : {outcome : Outcome} → GoesIn So (Stops outcome)
@@ -55,13 +55,13 @@ module _ {S : Type 0} where
   inherited : (So : S → Type 0) → Inherited (GoesIn So)
   inherited So = record { stops = λ none. stops; reads = reads; asks = asks; allocates = allocates; reaches = reaches }
 
-  -- the budget of events let one more pass, since the run went on
+  -- the budget of events allowed one more event, since the run continued
   pub in_room : (room : Bool) (done : Performed S) (outcome : Outcome) (log : Log) {later : Log} {next : S}
       → (if room then done else Finishes outcome log) ≡ Continues next later → done ≡ Continues next later
   in_room true done outcome log e = e
   in_room false done outcome log e = cc
 
-  -- once it was performed it went on in such a state
+  -- an act that continued did so in such a state
   went : (So : S → Type 0) (setting : Setting) (log : Log) {act : Act S} {next : S} {later : Log} → GoesIn So act
       → perform setting log act ≡ Continues next later → So next
   unfolding perform
@@ -76,7 +76,7 @@ module _ {S : Type 0} where
       went So setting (with_access log at object offset) h (in_room (allows_event setting log) _ _ _ e)
   went So setting log (touches {one = one} h) e = went So setting (with_touch log one) h e
 
--- where a frame is: the function, the frame's number, and the point that it has come to
+-- where a frame is: its function, its number, and its point
 pub record Stand : Type 0 where
   pub function : ℕ
   pub number : ℕ
@@ -85,11 +85,11 @@ pub record Stand : Type 0 where
 abbrev pub stand_of : CallFrame Point → Stand
 stand_of frame = record { function = frame.function; number = frame.number; here = frame.todo }
 
--- where the frames of a state are, the one that runs first
+-- where the frames of a state are, the running one first
 abbrev pub stands_of : CodeState → List Stand
 stands_of m = stand_of m.frame ∷ map stand_of m.callers
 
--- where an operation of a state leaves the frames: where they were, or below a new frame in which a graph begins
+-- where an operation leaves the frames: where they were, or below a new frame at the beginning of a graph
 pub data Works (code : Code) (m : CodeState) : CodeState → Type 0 where
   stays : {next : CodeState} → stands_of next ≡ stands_of m → next.frames ≡ m.frames → Works code m next
   enters : {next : CodeState} (function : ℕ) (flow : Flow) → flow_of code function ≡ Some flow
@@ -212,7 +212,7 @@ module _ (code : Code) (program : TypedProgram) (m : CodeState) where
   goes_work budgets at (Meet kind) = touches (goes (stays refl refl))
   goes_work budgets at (Close nothing) = touches (goes (stays refl refl))
 
--- a block at which the run may go on from the end of a block
+-- a block at which the run may continue after the end of a block
 abbrev pub LeadsTo : BlockEnd → ℕ → Type 0
 LeadsTo (Jump to) block = to ≡ block
 LeadsTo (Branch at temporary one other) block = ⊤
@@ -220,7 +220,7 @@ LeadsTo (Switch at temporary cases otherwise) block = ⊤
 LeadsTo (Return temporary) block = ⊥
 LeadsTo Finish block = ⊥
 
--- where a step leaves the frames of which there were so many
+-- where a step leaves the frames, by the number of frames so far
 pub data Moves (code : Code) : ℕ → List Stand → ℕ → List Stand → Type 0 where
   works : {frames f n : ℕ} {others : List Stand} {operation : Operation} {operations : List Operation} {end : BlockEnd}
       → Moves code frames (record { function = f; number = n; here = record { operations = operation ∷ operations; end = end } } ∷ others)
@@ -236,12 +236,12 @@ pub data Moves (code : Code) : ℕ → List Stand → ℕ → List Stand → Typ
   leaves : {frames : ℕ} {one : Stand} {others : List Stand} → Moves code frames (one ∷ others) frames others
 
 module _ (code : Code) (program : TypedProgram) (budgets : RunBudgets) (setting : Setting) where
-  -- where the frames of a state are whose frame that runs has come to a point
+  -- where the frames of a state are if the running one is at a point
   abbrev standing : List Operation → BlockEnd → CodeState → List Stand
   standing operations end m =
       record { function = m.frame.function; number = m.frame.number; here = record { operations = operations; end = end } } ∷ map stand_of m.callers
 
-  -- what is so of a state after a step from there
+  -- the frames of the state after a step from there
   abbrev Moved : List Operation → BlockEnd → CodeState → CodeState → Type 0
   Moved operations end m next = Moves code m.frames (standing operations end m) next.frames (stands_of next)
 
@@ -280,7 +280,7 @@ module _ (code : Code) (program : TypedProgram) (budgets : RunBudgets) (setting 
   moves_from (operation ∷ operations) end m next log later e =
       moved_by operation operations end m next (went _ setting log (goes_work code program _ budgets operation.at operation.work) e)
 
-  -- a step of the run moves its frames so
+  -- a step of the run moves its frames in this way
   pub moves : (m next : CodeState) (log later : Log)
       → perform setting log (step_at code program budgets m.frame.todo.operations m.frame.todo.end m) ≡ Continues next later
       → Moves code m.frames (stands_of m) next.frames (stands_of next)

@@ -1,4 +1,4 @@
--- Points in a graph: if a point is the rest of a block, so is each point at which it continues. For the control points of
+-- Points that are in a graph: if a point is the rest of a block, so is each point at which it continues. For the control points of
 -- placed code.
 use Rattle.std.specs.Prelude.{◌⊎◌, Contains, slice_get}
 use Rattle.std.proofs.Common.{◌≡◌, ℕ, zero, suc, List, [], ◌∷◌, ◌++◌, Option, Some, None, unwrap_or, refl, sym, ap, ◌∙◌, subst, inl}
@@ -28,11 +28,11 @@ is_met (by_operation e) = e
 is_met by_branch = refl
 is_met by_switch = refl
 
--- all of a block is left of it
+-- all of a block is a rest of it
 pub whole : (block : Point) → IsRest block block
 whole block = record { done = []; left = refl; ends = refl }
 
--- what is left after an operation
+-- the rest after an operation
 pub rest_past : (block : Point) (operation : Operation) (p : Point) → IsRest block (before operation p) → IsRest block p
 rest_past block operation p rest = record {
   done = rest.done ++ operation ∷ [];
@@ -40,7 +40,7 @@ rest_past block operation p rest = record {
   ends = rest.ends;
 }
 
--- a number that is no block's has the point that leaves the frame
+-- a number that isn't a block's yields the point that leaves the frame
 pub contains_at : (blocks : List Point) (number : ℕ) → Contains blocks (unwrap_or (slice_get blocks number) no_point)
     ⊎ (unwrap_or (slice_get blocks number) no_point ≡ no_point)
 contains_at [] number = inr refl
@@ -51,7 +51,7 @@ contains_at (first ∷ others) (suc number) = following (contains_at others numb
     following (inl among) = inl (Contains-append_right (first ∷ []) others _ among)
     following (inr none) = inr none
 
--- and there no control point is met
+-- and that is no control point
 nothing_met : (done operations : List Operation) (end : BlockEnd) (m : Met) → [] ≡ done ++ operations → Finish ≡ end
     → met_at operations end ≡ Some m → ⊥
 nothing_met [] [] end m e f is =
@@ -61,7 +61,7 @@ nothing_met [] (operation ∷ operations) end m e f is = cc
 nothing_met (operation ∷ done) operations end m e f is = cc
 
 module _ (program : TypedProgram) (flow : Flow) where
-  -- a point is what is left of the block with a number, or jumps lead to such a point
+  -- a point is the rest of the block with a number, or jumps lead to such a point
   pub record Kept (p : Point) : Type 0 where
     pub here : Point
     pub way : Joins program flow p here
@@ -83,7 +83,7 @@ module _ {program : TypedProgram} {flow : Flow} where
   kept_joins there kept = kept
   kept_joins (jumps {block = block} way) kept = kept_joins way (kept_block block)
 
-  -- jumps lead on from nothing else
+  -- from an operation no jumps lead on
   stays_at : {p q : Point} (operation : Operation) (operations : List Operation) → Joins program flow p q → p.operations ≡ operation ∷ operations
       → p ≡ q
   stays_at operation operations there e = refl
@@ -105,7 +105,7 @@ module _ {program : TypedProgram} {flow : Flow} where
         rest = rest_past (block_of flow kept.block) operation q (subst (IsRest (block_of flow kept.block)) (sym here) kept.rest);
       }
 
-  -- a control point occurs
+  -- a control point of a kept point occurs in the graph
   pub occurs : {p : Point} {m : Met} → Kept program flow p → IsMet p m → Occurs flow p
   occurs {p = p} {m = m} kept is =
       let here = stays_met kept.way (is_met is) in

@@ -1,5 +1,5 @@
--- A `goto` to a label in the code of a statement: the point to which it leads reaches the label's counted point, and the code of what the
--- reference machine has to do from there follows (C11 6.8.6.1).
+-- If a label is in what a graph executes, a `goto` lands: its target reaches the label's counted point, and what the reference machine has
+-- to do from there follows (C11 6.8.6.1).
 use Rattle.std.proofs.Common.{◌≡◌, ℕ, ◌+◌, ◌==◌, Bool, true, false, List, [], ◌∷◌, Option, Some, None, option_map, if◌then◌else◌}
 use Rattle.std.proofs.Common.{refl, ap, ◌∙◌, subst, eqb-true}
 use Rattle.cs_ast.specs.declared.place.Place.{Place}
@@ -16,7 +16,7 @@ use Rattle.cs_cfg.specs.Placing.{does, Joins, there}
 use Rattle.cs_cfg.specs.Executing.{goes_to, is_led_to, executes_at, all_at}
 use Rattle.cs_cfg.proofs.Arriving.{Arrives, arrives_from, again_stands, out_stands, row_arrives, from_first}
 
--- what is seen of a landing, and in this file mostly its counted point
+-- what is observed of a landing, in this file mostly its counted point
 abbrev pub seen_of : {A : Type 0} → (ℕ → Place → A) → Option Landing → Option A
 seen_of see landing = option_map (λ (l : Landing). see l.counted_point l.at) landing
 
@@ -24,7 +24,7 @@ abbrev pub counted_point_of : Option Landing → Option ℕ
 counted_point_of landing = seen_of (λ counted_point at. counted_point) landing
 
 module _ {A : Type 0} (see : ℕ → Place → A) where
-  -- of the first of two the same is seen as of the first of two others of which the same is seen
+  -- the first of two landings is observed alike if both are
   first_seen : (one one' other other' : Option Landing) → seen_of see one ≡ seen_of see one' → seen_of see other ≡ seen_of see other'
       → seen_of see (first_of_two one other) ≡ seen_of see (first_of_two one' other')
   first_seen (Some l) (Some l') other other' e f = e
@@ -32,14 +32,14 @@ module _ {A : Type 0} (see : ℕ → Place → A) where
   first_seen None (Some l') other other' e f = cc
   first_seen None None other other' e f = f
 
-  -- the same of a label that is the wanted one, or not
+  -- the same for a label that is the wanted one, or not
   label_seen : (found : Bool) (l l' : Landing) (one other : Option Landing) → see l.counted_point l.at ≡ see l'.counted_point l'.at
       → seen_of see one ≡ seen_of see other → seen_of see (if found then Some l else one) ≡ seen_of see (if found then Some l' else other)
   label_seen true l l' one other e f = ap Some e
   label_seen false l l' one other e f = f
 
   mutual
-    -- whatever is to be done after a statement, the same is seen of a label in it
+    -- whatever is to be done after a statement, a label in it is observed alike
     pub seen_alike : (wanted : ℕ) (s : Statement) (counted_point : ℕ) (items items' : List Item)
         → seen_of see (landing wanted s counted_point items) ≡ seen_of see (landing wanted s counted_point items')
     seen_alike wanted (Block at statements) counted_point items items' = seen_alike_in wanted statements counted_point items items'
@@ -78,7 +78,7 @@ module _ {A : Type 0} (see : ℕ → Place → A) where
         (seen_alike wanted first counted_point (executes others (counted_point + counted_points first) items)
         (executes others (counted_point + counted_points first) items')) (seen_alike_in wanted others (counted_point + counted_points first) items items')
 
--- so a label's counted point is the same, and its place
+-- so a label's counted point is the same, and its position
 pub counted_points_alike : (wanted : ℕ) (s : Statement) (counted_point : ℕ) (items items' : List Item)
     → counted_point_of (landing wanted s counted_point items) ≡ counted_point_of (landing wanted s counted_point items')
 counted_points_alike wanted s counted_point items items' = seen_alike (λ counted_point at. counted_point) wanted s counted_point items items'
@@ -90,14 +90,14 @@ pub placed_alike : (wanted : ℕ) (s : Statement) (counted_point : ℕ) (items i
     → place_of (landing wanted s counted_point items) ≡ place_of (landing wanted s counted_point items')
 placed_alike wanted s counted_point items items' = seen_alike (λ counted_point at. at) wanted s counted_point items items'
 
--- a first of two that is there is one of them
+-- the first of two is one of them
 first_is : {Goal : Type 0} (one other : Option Landing) (l : Landing) → first_of_two one other ≡ Some l → (one ≡ Some l → Goal)
     → (other ≡ Some l → Goal) → Goal
 first_is (Some l') other l e take skip = take e
 first_is None other l e take skip = skip e
 
 module _ (program : TypedProgram) (flow : Flow) (routine : Routine) (labels : ℕ → Point) where
-  -- a label's counted point is reached at a point, to which its `goto`s lead where it is the first of its name, and after it stands what is to be done
+  -- the point at which a label's counted point is reached, the target of its `goto`s if the label is the first of its name; then the things to do
   pub record Lands (wanted : ℕ) (l : Landing) : Type 0 where
     pub head : Point
     pub inside : Point
@@ -107,7 +107,7 @@ module _ (program : TypedProgram) (flow : Flow) (routine : Routine) (labels : �
     pub again : Point
     pub stands : Arrives program flow routine labels l.todo out again 0 inside
 
-  -- a label is the wanted one, or it stands inside
+  -- a label is the wanted one, or that one is inside
   at_label : (wanted label counted_point : ℕ) (at : Place) (body : Statement) (items : List Item) (l : Landing) (head inside q out again : Point)
       → head ≡ does at 0 (graph.Reach point.Label counted_point) inside →
       is_led_to program flow routine labels (landing label (body_of routine) 0 []) counted_point (labels label) head
@@ -175,7 +175,7 @@ module _ (program : TypedProgram) (flow : Flow) (routine : Routine) (labels : �
     lands_in wanted (Continue at) counted_point items l out again p q it s e = cc
     lands_in wanted (Return at value) counted_point items l out again p q it s e = cc
 
-    -- a label in statements in a row
+    -- a label in a list of statements
     lands_among : (wanted : ℕ) (statements : Statements) (counted_point : ℕ) (items : List Item) (l : Landing) (out again p q : Point) →
         all_at program flow routine labels statements counted_point out again p q → Arrives program flow routine labels items out again 0 q
         → landing_in wanted statements counted_point items ≡ Some l → Lands wanted l
@@ -189,7 +189,7 @@ module _ (program : TypedProgram) (flow : Flow) (routine : Routine) (labels : �
         (arrives_from program flow routine labels (executes others (counted_point + counted_points first) items) out again 0 it.1.2 others_stand) f)
         (λ f. lands_among wanted others (counted_point + counted_points first) items l out again it.0 q it.2 s f)
 
-  -- where a label has a landing, it is one whatever is to be done at the end, with the same counted point
+  -- if a label has a landing, it has one whatever is to be done at the end, with the same counted point
   led_same : (wanted : ℕ) (first : Option Landing) (l : Landing) (head : Point) → counted_point_of first ≡ counted_point_of (Some l)
       → is_led_to program flow routine labels first l.counted_point (labels wanted) head → labels wanted ≡ head
   led_same wanted None l head e led = cc
@@ -214,7 +214,7 @@ module _ (program : TypedProgram) (flow : Flow) (routine : Routine) (labels : �
       let led = led_same wanted (landing wanted (body_of routine) 0 []) l lands.head with_counted_point lands.led in
       record { inside = lands.inside; reaches = led ∙ lands.reaches; out = lands.out; again = lands.again; stands = lands.stands }
 
-  -- and one that has no label goes on
+  -- and one without a label continues
   nothing_led : (first : Option Landing) (label p q : Point) → counted_point_of first ≡ None → goes_to program flow routine labels first label p q
       → Joins program flow p q
   nothing_led None label p q e way = way
@@ -226,7 +226,7 @@ module _ (program : TypedProgram) (flow : Flow) (routine : Routine) (labels : �
       nothing_led (landing wanted (body_of routine) 0 []) (labels wanted) p q (counted_points_alike wanted (body_of routine) 0 [] items
       ∙ ap counted_point_of e) way
 
-  -- one that has a label jumps to it
+  -- one with a label jumps to it
   somewhere_led : (first : Option Landing) (l : Landing) (label p q : Point) → counted_point_of first ≡ Some l.counted_point
       → goes_to program flow routine labels first label p q → Joins program flow p label
   somewhere_led None l label p q e way = cc
@@ -238,7 +238,7 @@ module _ (program : TypedProgram) (flow : Flow) (routine : Routine) (labels : �
       somewhere_led (landing wanted (body_of routine) 0 []) l (labels wanted) p q (counted_points_alike wanted (body_of routine) 0 [] items
       ∙ ap counted_point_of e) way
 
-  -- a `goto` with a label leads on from the label too
+  -- a `goto` with a label also continues from the label itself
   stays_led : (first : Option Landing) (l : Landing) (label p q : Point) → counted_point_of first ≡ Some l.counted_point
       → goes_to program flow routine labels first label p q → goes_to program flow routine labels first label label q
   stays_led None l label p q e way = cc

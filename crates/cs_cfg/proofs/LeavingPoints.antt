@@ -1,5 +1,5 @@
--- A step from a control point shows the way that it takes, after which the current frame is where the graph continues on this way: for the
--- laws `lowered_code_follows_flow` and `programs_follow_flow`.
+-- A step that leaves a control point shows the edge, and leaves the running frame where the graph continues by it: for the laws
+-- `lowered_code_follows_flow` and `programs_follow_flow`.
 use Rattle.std.specs.Prelude.{◌⊎◌}
 use Rattle.std.proofs.Common.{◌≡◌, ℕ, suc, ◌+◌, nat_lt, ℤ, Bool, true, false, List, [], ◌∷◌, ◌++◌, length, map, Option, Some, None}
 use Rattle.std.proofs.Common.{slice_get, inl, inr}
@@ -38,7 +38,7 @@ use Rattle.cs_cfg.specs.FollowingFlow.{ShowsExit}
 use Rattle.cs_cfg.proofs.Keeping.{met_at}
 use Rattle.cs_cfg.proofs.FrameSteps.{in_room, stand_of, stands_of}
 
--- a case that a number leads to is one of the list, or there is none
+-- the case that a number selects is one of the list, or there is none
 abbrev WayIs : List SwitchCase → ℕ → Way → ℕ → Type 0
 WayIs cases otherwise way count = ((number : ℕ) × (taken : SwitchCase) × (slice_get cases number ≡ Some taken) × (way.number ≡ count + number)
     × (way.block ≡ taken.block)) ⊎ ((way.number ≡ count + length cases) × (way.block ≡ otherwise))
@@ -57,7 +57,7 @@ way_is (one ∷ cases) otherwise number count = by_value (int_eq one.value numbe
         let same : (count + 1) + length cases ≡ count + suc (length cases) = omega arith in
         inr (none.0 ∙ same, none.1)
 
--- what a step leaves as it was: where the frames are, and what was shown
+-- what a step keeps: where the frames are, and what was shown
 record Passed (m next : CodeState) (log later : Log) : Type 0 where
   stands : stands_of next ≡ stands_of m
   frames : next.frames ≡ m.frames
@@ -77,14 +77,14 @@ passed m next s log later near e stands frames shows =
 no_point_met : {P : Type 0} {one : Met} → None ≡ Some one → P
 no_point_met e = cc
 
--- a test has gone the way that shows
+-- a test has taken the edge that it shows
 record Tested (at : Place) (further : Bool → CodeState) (log later : Log) (next : CodeState) : Type 0 where
   holds : Bool
   goes : further holds ≡ next
   shown : ShowsExit at (TruthOf holds) log later
 
 module _ (setting : Setting) where
-  -- a counted point that is reached shows nothing
+  -- reaching a counted point shows nothing
   passed_counted : (budgets : RunBudgets) (at : Place) (kind : PointKind) (counted_point : ℕ) (count : Option ℕ) (m next : CodeState) (log later : Log)
       → perform setting log (reached_again budgets at kind counted_point count m) ≡ Continues next later → Passed m next log later
   unfolding perform
@@ -97,7 +97,7 @@ module _ (setting : Setting) where
       within true e = passed m next _ log later _ e refl refl refl
       within false e = cc
 
-  -- the way that a test takes, after what it has shown of its pointer
+  -- the edge that a test takes, after what it has shown about its pointer
   takes_way : (at : Place) (further : Bool → CodeState) (holds : Bool) (looked : List Event) (log near later : Log) (next : CodeState)
       → near.events ≡ log.events ++ looked
       → perform setting near (Touches (Meets point.Branch at) (shows_then at (label.Branch holds) (Goes (further holds)))) ≡ Continues next later
@@ -130,7 +130,7 @@ module _ (setting : Setting) where
       (in_room (allows_event setting log) _ _ _ e)
   tested at further UnsetCell log later next e = takes_way at further false [] log log later next (sym (append-nil log.events)) e
 
-  -- the way that a `switch` takes
+  -- the edge that a `switch` takes
   switched : (at : Place) (number : ℕ) (s next : CodeState) (log later : Log)
       → perform setting log (Touches (Meets point.Switch at) (shows_then at (label.Case number) (Goes s))) ≡ Continues next later
       → (s ≡ next) × ShowsExit at (CaseOf number) log later
@@ -183,7 +183,7 @@ module _ (code : Code) (program : TypedProgram) (budgets : RunBudgets) (setting 
   passed_work at (Meet kind) m next log later one is e = passed m next _ log later _ e refl refl refl
   passed_work at (Close nothing) m next log later one is e = passed m next _ log later _ e refl refl refl
 
-  -- a step has left a control point: by a way that shows, to where the graph goes on
+  -- a step has left a control point: by an edge that it shows, to where the graph continues
   pub record Leaves (flow : Flow) (p : Point) (m next : CodeState) (log later : Log) (one : Met) : Type 0 where
     pub exit : Exit
     pub to : Point

@@ -1,4 +1,4 @@
--- The beginning and the end of a function's body, and the ends of frames, in the simulation (C11 6.8.6.4, 6.9.1).
+-- The beginning and the end of a function's body, and leaving a frame, in the simulation (C11 6.8.6.4, 6.9.1).
 use Rattle.std.proofs.Common.{◌≡◌, ℕ, suc, ◌+◌, List, [], ◌∷◌, length, arith, refl, sym, ap, subst}
 use Rattle.cs_ast.specs.declared.place.Place.{Place}
 use Rattle.cs_ast.specs.TypedProgram.{TypedProgram}
@@ -22,7 +22,7 @@ use Rattle.cs_cfg.proofs.Moving.{uncut, Home, stands, onward, with_depth, aligne
 use Rattle.cs_cfg.proofs.Executed.{silently, home_with}
 
 module _ (code : Code) (program : TypedProgram) (budgets : RunBudgets) where
-  -- a frame that waited has its value
+  -- a frame that waited receives its value
   given : (value : Operand) (frame : Frame) (other : CallFrame Point) → FrameStands code program (suc (length frame.stack)) frame other →
       FrameStands code program (length (value ∷ frame.stack)) (record frame { stack = value ∷ frame.stack })
       (record other { stack = value ∷ other.stack })
@@ -43,7 +43,7 @@ module _ (code : Code) (program : TypedProgram) (budgets : RunBudgets) where
     stands = s.stands;
   }
 
-  -- a frame is left alike
+  -- frames are left alike
   left_to : (value : Operand) (m : State) (p : Point) (callers : List (CallFrame Point)) (frames : List Frame) (others : List (CallFrame Point))
       → CallersStand code program frames others →
       Yields (Related code program budgets) (leave_to frames value m) (leave_to others value (as_code p callers m))
@@ -55,7 +55,7 @@ module _ (code : Code) (program : TypedProgram) (budgets : RunBudgets) where
 
   module _ (m : State) (home : Home code program m.frame.function) (callers : List (CallFrame Point)) (waiting : CallersStand code program m.callers callers)
     where
-      -- with nothing left to be done the frame is left
+      -- with nothing more to do the frame is left
       pub nothing_answers : (p : Point) → stands code program home [] (length m.frame.stack) p
           → Answer code program budgets (to_do [] m) (as_code p callers m)
       nothing_answers p it = subst (λ x. Answer code program budgets (to_do [] m) (as_code x callers m)) (sym it.0)
@@ -77,7 +77,7 @@ module _ (code : Code) (program : TypedProgram) (budgets : RunBudgets) where
           (both_touch
           (both_go (now (aligned code program (to_do items m) home it.1.1 callers (with_depth code program home items it.1.1 (sym deep) it.1.4) waiting))))
 
-      -- the frame is to be left with the newest value
+      -- the frame is left with the newest value
       leaves_next : (depth : ℕ) → depth ≡ 1 → onward code program (home_with code program budgets home finishing finishing) (Leave ∷ []) depth leaving
       leaves_next depth e = (leaving, there, (e, refl, (finishing, (finishing, there, (refl, there, there)))))
 

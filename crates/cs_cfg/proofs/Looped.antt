@@ -1,4 +1,4 @@
--- Loops in the simulation: their heads are reached, and after their bodies the code returns to them (C11 6.8.5).
+-- Loops in the simulation: their heads are reached, and after their bodies the code jumps back to them (C11 6.8.5).
 use Rattle.std.proofs.Common.{◌≡◌, ℕ, ◌+◌, List, ◌∷◌, length, Option, Some, None, refl, sym, subst}
 use Rattle.cs_ast.specs.declared.place.Place.{Place}
 use Rattle.cs_ast.specs.TypedTree.{Typed, Statement, While, Do, For, Statements}
@@ -21,7 +21,7 @@ use Rattle.cs_cfg.proofs.Executed.{silently, home_with, counted_point_reached}
 module _ (code : Code) (program : TypedProgram) (budgets : RunBudgets) (m : State) (home : Home code program m.frame.function)
     (callers : List (CallFrame Point)) (waiting : CallersStand code program m.callers callers) (empty : length m.frame.stack ≡ 0) where
   module _ (counted_point : ℕ) (items : List Item) (p after_body : Point) (rest : onward code program home items 0 home.out) where
-    -- the machine and the code's run answer one another at the head of a loop
+    -- the machine and the code's run simulate each other at the head of a loop
     abbrev Turns : Statement → Type 0
     Turns s = loops_at program home.flow (routine_of program m.frame.function) home.lowers.labels s counted_point p after_body home.out
         → Answer code program budgets (to_do (Turn s counted_point ∷ items) m) (as_code p callers m)

@@ -1,5 +1,5 @@
--- What is reached next from a point on follows from placing: an expression, or a statement, is entered at its first control
--- point, or at what is reached after it. For the control points of placed code.
+-- The next control point from a point follows from where code is placed: that of an expression is its first control point, or the next one
+-- after it. For the control points of placed code.
 use Rattle.std.proofs.Common.{◌≡◌, ℕ, suc, ◌+◌, ℤ, List, [], Some, None, refl, sym, subst}
 use Rattle.cs_types.specs.Shape.{Shape, void, integer, pointer, array, struct}
 use Rattle.cs_ast.specs.declared.place.Place.{Place}
@@ -27,7 +27,7 @@ module _ {flow : Flow} where
       → MeetsNext flow (does at number work q) next
   does_meets at number work q silent m = past {operation = record { at = at; temporary = number; work = work }} {p = q} silent m
 
-  -- an operation that is one
+  -- through an operation that is one
   pub point_meets : (at : Place) (number : ℕ) (work : Work) (q : Point) {m : Met} → met_in at work ≡ Some m
       → MeetsNext flow (does at number work q) (Some m)
   point_meets at number work q is = here (by_operation {operation = record { at = at; temporary = number; work = work }} {p = q} is)
@@ -51,7 +51,7 @@ module _ {flow : Flow} where
   use_meets (Of at ty other) number q m = m
 
 module _ (program : TypedProgram) (flow : Flow) where
-  -- a conversion's part is used, but for one to void
+  -- a conversion's part is used, except for a conversion to void
   pub convert_part : {Goal : Type 0} (at : Place) (ty : Shape) (a : Typed) (number : ℕ) (p q : Point)
       → evaluates_form program flow at ty (Convert a) number p q →
       ((work : Work) → met_in at work ≡ None → evaluates program flow a number p (does at number work q) → Goal) →
@@ -68,7 +68,7 @@ module _ (program : TypedProgram) (flow : Flow) where
         → MeetsNext flow p (first e next)
     meets (Of at ty form) number p q it m = form_meets at ty form number p q it m
 
-    -- one whose value is used
+    -- an expression whose value is used
     pub used_meets : (e : Typed) (number : ℕ) (p q : Point) {next : Next} → used program flow e number p q → MeetsNext flow q next
         → MeetsNext flow p (first e next)
     used_meets (Of at ty form) number p q it m = form_meets at ty form number p (used_then (Of at ty form) number q) it (use_meets (Of at ty form) number q m)
@@ -117,13 +117,13 @@ module _ (program : TypedProgram) (flow : Flow) where
     form_meets at ty (Allocate allocator arguments element) number p q it m = all_meet arguments number p _ it.1 (does_meets at number _ q refl m)
     form_meets at ty (Free a) number p q it m = used_meets a number p _ it (does_meets at number _ q refl m)
 
-    -- expressions in a row
+    -- a list of expressions
     pub all_meet : (row : TypedList) (number : ℕ) (p q : Point) {next : Next} → used_all program flow row number p q → MeetsNext flow q next
         → MeetsNext flow p (first_in row next)
     all_meet NoMore number p q it m = same_meets it m
     all_meet (Further e others) number p q it m = used_meets e number p it.0 it.1 (all_meet others (suc number) it.0 q it.2 m)
 
-  -- and then jumps, as after both ways of `&&`, `||` and `?:`
+  -- an expression and then jumps, as after both edges of `&&`, `||` and `?:`
   pub joined_meets : (e : Typed) (number : ℕ) (p q : Point) {next : Next} → joined program flow e number p q → MeetsNext flow q next
       → MeetsNext flow p (first e next)
   joined_meets (Of at ty form) number p q it m = form_meets at ty form number p _ it.1 (use_meets (Of at ty form) number it.0 (joins_meet it.2 m))

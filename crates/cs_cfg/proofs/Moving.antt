@@ -1,4 +1,4 @@
--- States of the machine and of the code's run stay related: after silent jumps, and after one operation for one thing to do. For the
+-- How states of the machine and of the code's run stay related: first silent jumps, then one operation for one thing to do. For the
 -- simulation.
 use Rattle.std.proofs.Common.{◌≡◌, ℕ, suc, ◌+◌, ◌-◌, List, ◌∷◌, length, drop, Option, Some, unwrap_or, if◌then◌else◌, Bool, arith}
 use Rattle.std.proofs.Common.{refl, sym, ap, ◌∙◌, subst}
@@ -21,12 +21,12 @@ use Rattle.cs_cfg.proofs.Alike.{yields_branch}
 use Rattle.cs_cfg.proofs.Acting.{as_code, Leaves}
 use Rattle.cs_cfg.proofs.Related.{FrameStands, CallersStand, Aligned, Related, now, soon}
 
--- jumps and then jumps
+-- jumps, and then more jumps
 pub joins_on : {program : TypedProgram} {flow : Flow} {p q r : Point} → Joins program flow p q → Joins program flow q r → Joins program flow p r
 joins_on there onward = onward
 joins_on (jumps way) onward = jumps (joins_on way onward)
 
--- where as many temporaries are in use as are needed, none is dropped
+-- with exactly as many temporaries in use as are needed, none is dropped
 nothing_below : (k : ℕ) (operands : List Operand) → length operands ≡ k → drop (length operands - k) operands ≡ operands
 nothing_below k operands e = let none : length operands - k ≡ 0 = omega arith in ap (λ count. drop count operands) none
 
@@ -35,7 +35,7 @@ pub uncut : (k : ℕ) (p : Point) (callers : List (CallFrame Point)) (m : State)
 uncut k p callers m e = ap (λ stack. with_stack stack (as_code p callers m)) (nothing_below k m.frame.stack e)
 
 module _ (code : Code) (program : TypedProgram) where
-  -- the graph of a function, which executes its body, and two points to which `break` and `continue` lead
+  -- the graph of a function, which executes its body, and the two points to which `break` and `continue` lead
   pub record Home (function : ℕ) : Type 0 where
     pub body : Statement
     pub has_body : (routine_of program function).body ≡ Some body
@@ -62,12 +62,12 @@ module _ (code : Code) (program : TypedProgram) where
       Joins program home.flow p q → onward home items depth q → onward home items depth p
   jumps_to home items depth way s = (s.0, joins_on way s.1, s.2)
 
-  -- with as many temporaries in use
+  -- the same with an equal number of temporaries in use
   pub with_depth : {function : ℕ} (home : Home function) (items : List Item) {depth other : ℕ} (p : Point) →
       depth ≡ other → onward home items depth p → onward home items other p
   with_depth home items p e s = subst (λ d. onward home items d p) e s
 
-  -- a frame of the code's run at a point that does what is to be done in one of the machine's
+  -- a frame of the code's run at a point that does what one of the machine's frames has to do
   pub frame_at : (frame : Frame) (home : Home frame.function) (depth : ℕ) (p : Point) →
       onward home frame.todo depth p
       → FrameStands code program depth frame (record {
@@ -109,7 +109,7 @@ module _ (code : Code) (program : TypedProgram) where
   abbrev pub home_of : {depth : ℕ} {frame : Frame} {other : CallFrame Point} → FrameStands code program depth frame other → Home frame.function
   home_of s = record { body = s.body; has_body = s.has_body; flow = s.flow; has_flow = s.has_flow; lowers = s.lowers; out = s.out; again = s.again }
 
-  -- the code's state is described by the machine's, the point and the callers
+  -- the code's state is determined by the machine's, the point and the callers
   pub reported_by : {m : State} {t : CodeState} → Aligned code program m t → t ≡ as_code t.frame.todo t.callers m
   reported_by {m = m} {t = t} a = λ i. record {
     frame = record { function = a.frame.function i; number = a.frame.number i; todo = t.frame.todo; stack = a.frame.stack i; visits = a.frame.visits i };
@@ -126,17 +126,17 @@ module _ (code : Code) (program : TypedProgram) where
   enters_block block p callers m home = ap (λ flow. as_code (block_of (unwrap_or flow no_flow) block) callers m) home.has_flow
 
   module _ (budgets : RunBudgets) where
-    -- the machine and the run of the code answer one another
+    -- the machine and the code's run simulate each other
     abbrev pub Answer : State → CodeState → Type 0
     Answer m t = Answers (Related code program budgets) (step program budgets) (code_step code program budgets) m t
 
-    -- it is enough that this is so of aligned states
+    -- it suffices to show this for aligned states
     pub answers_all : ((m : State) (t : CodeState) → Aligned code program m t → Answer m t) →
         Simulates (Related code program budgets) (step program budgets) (code_step code program budgets)
     answers_all h m t (now a) = h m t a
     answers_all h m t (soon e r) = first e r (answers_all h m _ r)
 
-    -- jumps alone are silent
+    -- jumps are silent
     pub arrives : (m : State) (home : Home m.frame.function) (p here : Point) (callers : List (CallFrame Point)) → Joins program home.flow p here →
         stands home m.frame.todo (length m.frame.stack) here → CallersStand code program m.callers callers → Answer m (as_code here callers m)
         → Answer m (as_code p callers m)
@@ -145,7 +145,7 @@ module _ (code : Code) (program : TypedProgram) where
         first (ap Goes (enters_block block p callers m home)) (now (aligned m home (block_of home.flow block) callers (here, way, s) waiting))
         (arrives m home (block_of home.flow block) here callers way s waiting h)
 
-    -- it is enough that the code's run stands right where the machine's list is done
+    -- it suffices to show this where the code's run is exactly at the point that does the machine's list
     pub answers_here : (m : State) (t : CodeState) → Aligned code program m t →
         ((home : Home m.frame.function) (here : Point) (callers : List (CallFrame Point)) →
         stands home m.frame.todo (length m.frame.stack) here → CallersStand code program m.callers callers → Answer m (as_code here callers m))
@@ -155,13 +155,13 @@ module _ (code : Code) (program : TypedProgram) where
         subst (Answer m) (sym (reported_by a))
         (arrives m home t.frame.todo a.frame.here t.callers a.frame.joins a.frame.stands a.callers (h home a.frame.here t.callers a.frame.stands a.callers))
 
-    -- where the code's run stands right where the first thing to do is done, the machine and the run answer one another
+    -- if the code's run is exactly where the first thing to do is done, the machine and the run simulate each other
     abbrev pub Answered : Item → Type 0
     Answered item = (items : List Item) (m : State) (home : Home m.frame.function) (here : Point) (callers : List (CallFrame Point)) →
         stands home (item ∷ items) (length m.frame.stack) here → CallersStand code program m.callers callers
         → Answer (to_do (item ∷ items) m) (as_code here callers m)
 
-    -- a state with the same frame but for what it has as operands, in which a point does what is to be done
+    -- a state with the same frame except for its operands, in which a point does what is to be done
     pub leaves : (m : State) (home : Home m.frame.function) (q : Point) (callers : List (CallFrame Point)) (depth : ℕ) →
         onward home m.frame.todo depth q → CallersStand code program m.callers callers
         → Leaves (Related code program budgets) code program budgets m q callers depth
@@ -178,7 +178,7 @@ module _ (code : Code) (program : TypedProgram) where
     code_works at work number q callers m e = let enough : length m.frame.stack ≡ number + takes work = omega arith in
         ap (do_work code program budgets at work) (uncut (number + takes work) q callers m enough)
 
-    -- an operation reports what the first thing to do does
+    -- an operation yields the same as the first thing to do
     pub work_answers : (item : Item) (items : List Item) (m : State) (at : Place) (work : Work) (number : ℕ) (p q : Point) (callers : List (CallFrame Point))
         →
         length m.frame.stack ≡ takes work + number → p ≡ does at number work q →
@@ -189,7 +189,7 @@ module _ (code : Code) (program : TypedProgram) where
         (together (subst (Yields (Related code program budgets) (do_item program budgets item (to_do items m)))
         (sym (code_works at work number q callers m deep)) yields))
 
-    -- the same where the relation of states says which operation it is
+    -- the same where the relation of states determines which operation it is
     pub worked_answers : (item : Item) (items : List Item) (m : State) (home : Home m.frame.function) (at : Place) (work : Work) (count : ℕ) (here : Point)
         (callers : List (CallFrame Point)) →
         worked at work count (onward home items) (length m.frame.stack) here →
@@ -211,7 +211,7 @@ module _ (code : Code) (program : TypedProgram) where
         branch at (cell_at m 0) (λ holds. Goes (as_code (block_of (unwrap_or flow no_flow) (if holds then one else other)) callers (pop m))) in
         ap ways (uncut (number + 1) (split at number one other) callers m enough) ∙ ap goes home.has_flow
 
-    -- a test reports what the first thing to do does, where the state to which each way leads is related to the code's at the way's block
+    -- a test yields the same as the first thing to do, if the state after each truth is related to the code's at the block of that edge
     pub branch_answers : (item : Item) (items : List Item) (m : State) (home : Home m.frame.function) (at : Place) (number one other : ℕ) (here : Point)
         (callers : List (CallFrame Point)) (next : Bool → State) →
         length m.frame.stack ≡ suc number → here ≡ split at number one other →

@@ -1,4 +1,4 @@
--- A property of acts for all lookups, operations and accesses on the way holds for each operation if it holds for what comes after it.
+-- What holds for acts, whatever they look up, ask and reach, holds for each operation if it holds for what follows.
 use Rattle.std.proofs.Common.{ℕ, ◌+◌, ◌*◌, ℤ, pos, int_le, int_lt, int_eq, ◌&&◌, ◌||◌, Bool, true, false, List, [], ◌∷◌, Option, Some}
 use Rattle.std.proofs.Common.{None, unwrap_or, if◌then◌else◌}
 use Rattle.std.specs.Prelude.{⊤}
@@ -38,8 +38,8 @@ IsNoReturn (Done what) = ⊥
 IsNoReturn (Fault kind at) = ⊤
 IsNoReturn (Over budget at) = ⊤
 
--- what is so of the end of a run with a fault or over a budget, and of what looks up, asks, allocates or reaches where it is so of what
--- comes after
+-- a property of the end of a run with a fault or over a budget, and of acts that look up, ask, allocate or reach if it holds for what
+-- follows
 pub record Inherited {S : Type 0} (P : Act S → Type 0) : Type 0 where
   pub stops : {outcome : Outcome} → IsNoReturn outcome → P (Stops outcome)
   pub reads : {path : Path} {kind : InputKind} {f : Cell → Act S} → ((cell : Cell) → P (f cell)) → P (Reads path kind f)
@@ -48,7 +48,7 @@ pub record Inherited {S : Type 0} (P : Act S → Type 0) : Type 0 where
   pub reaches : {at : Place} {object : Object} {offset : ℤ} {a : Act S} → P a → P (Reaches at object offset a)
 
 module _ {S : Type 0} {P : Act S → Type 0} (inherited : Inherited P) where
-  -- continuations of one argument and of two of which it is so
+  -- continuations of one and of two arguments for which it holds
   abbrev pub Each : {A : Type 0} → (A → Act S) → Type 0
   Each {A = A} f = (a : A) → P (f a)
 
@@ -68,7 +68,7 @@ module _ {S : Type 0} {P : Act S → Type 0} (inherited : Inherited P) where
   keeps_look at (NumberCell n) h = h
   keeps_look at UnsetCell h = h
 
-  -- a check ends the run with a fault, or lets it go on
+  -- a check ends the run with a fault, or continues
   keeps_not_null : (at : Place) (cell : Cell) {a : Act S} → P a → P (not_null at cell a)
   keeps_not_null at NullCell h = inherited.stops tt
   keeps_not_null at (PointerCell object offset) h = h

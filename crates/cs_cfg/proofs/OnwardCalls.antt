@@ -23,7 +23,7 @@ use Rattle.cs_meaning.specs.Expressions.{use_result}
 use Rattle.cs_cfg.proofs.Onward.{Inherited, Each, EachOfTwo, keeps_if, keeps_shows, keeps_receive, keeps_set, keeps_operate}
 
 module _ {S : Type 0} {P : Act S → Type 0} (inherited : Inherited P) where
-  -- a call of a function without a body writes through its arguments, and gives a result
+  -- a call of a function without a body writes through its arguments, and returns a result
   keeps_through : (program : TypedProgram) (at : Place) (path : Path) (cell : Cell) (memory : Memory) {f : Memory → Act S} → Each inherited f
       → P (write_through program at path cell memory f)
   keeps_through program at path NullCell memory h = keeps_shows inherited at _ (h memory)
@@ -78,7 +78,7 @@ module _ {S : Type 0} {P : Act S → Type 0} (inherited : Inherited P) where
   pub keeps_within_depth : (budgets : RunBudgets) (at : Place) (frames : ℕ) {a : Act S} → P a → P (within_depth budgets at frames a)
   keeps_within_depth budgets at frames h = keeps_if inherited (nat_lt frames budgets.depth) h (inherited.stops tt)
 
--- what is so of going on, too
+-- a property that holds for continuing, too
 module _ {Rest : Type 0} {P : Act (Running Rest) → Type 0} (inherited : Inherited P) (goes : (m : Running Rest) → P (Goes m)) where
   -- a block is freed
   keeps_block : (at : Place) (standing : Standing) (object : Object) (offset : ℤ) (m : Running Rest) → P (release_block at standing object offset m)
@@ -103,7 +103,7 @@ module _ {Rest : Type 0} {P : Act (Running Rest) → Type 0} (inherited : Inheri
       keeps_if inherited (is_true holds)
       (keeps_operate inherited program.model at Mul (size_type_of program.model) _ _ (λ bytes. inherited.allocates (λ given. goes _))) (goes _))
 
-  -- a function is called that has a body, or none
+  -- a function with or without a body is called
   pub keeps_enter : (program : TypedProgram) (budgets : RunBudgets) (begins : ℕ
       → CallFrame Rest) (at : Place) (function : ℕ) (routine : Routine) (operands : List Operand) (m : Running Rest)
       → P (enter_as program budgets begins at function routine operands m)

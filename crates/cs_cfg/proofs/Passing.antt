@@ -1,4 +1,4 @@
--- Code that is lowered from a program passes and reads what the program does: for the law `lowered_code_passes_alike`.
+-- Code that is lowered from a program passes the events and reads the paths that the program does: for `lowered_code_passes_alike`.
 use Rattle.std.proofs.Common.{◌≡◌, ℕ, zero, suc, ◌<◌, List, [], ◌∷◌, ◌++◌, length, Some, slice_get, inl, inr, refl, sym, ap}
 use Rattle.std.proofs.Common.{◌∙◌, subst, arith}
 use Rattle.std.specs.Prelude.{Contains}
@@ -25,28 +25,28 @@ use Rattle.cs_cfg.specs.CodeSteps.{code_step, CodeComesTo, CodePasses, CodeReads
 use Rattle.cs_cfg.specs.Lowered.{RunsAlike}
 use Rattle.cs_cfg.specs.Passing.{RunComesTo, ShowAlike, PassesAlike}
 
--- the log to which a run comes goes on to that of its end
+-- a run's log at any step is a beginning of that at its end
 comes_before : {State : Type 0} (step : State → Act State) (setting : Setting) {start : State} {log end : Log} {outcome : Outcome}
     → ComesTo step setting start log → Ends step setting start outcome end → GoesOn log end
 comes_before step setting (inl way) ends = end_adds step setting (left_after step setting way.1 ends.leads ends.finishes)
 comes_before step setting {log = log} (inr ended) ends = subst (GoesOn log) (sym (one_end step setting ended.1 ends).1) (stays_so log)
 
--- what was passed first stays so
+-- the events that were passed first remain
 passed_on : {log end : Log} (events more : List Event) → log.events ≡ events ++ more → GoesOn log end
     → (rest : List Event) × (end.events ≡ events ++ rest)
 passed_on events more e on = (more ++ on.events.0, on.events.1 ∙ ap (λ l. l ++ on.events.0) e ∙ append_assoc events more on.events.0)
 
--- and what was read stays read
+-- what was read remains read
 read_on : {log end : Log} (one : Lookup) → GoesOn log end → Contains log.read one → Contains end.read one
 read_on {log = log} one on among = subst (λ l. Contains l one) (sym on.read.1) (Contains-append_left log.read on.read.0 one among)
 
--- an item stays where it is
+-- an item keeps its index
 kept_at : {A : Type 0} (xs more : List A) (n : ℕ) → n < length xs → slice_get (xs ++ more) n ≡ slice_get xs n
 kept_at [] more n l = absurd (omega arith)
 kept_at (x ∷ xs) more zero l = refl
 kept_at (x ∷ xs) more (suc n) l = kept_at xs more n (omega arith)
 
--- two lists that go on to the same one have the same items as far as both go
+-- two beginnings of one list have the same items as far as both reach
 agree : {A : Type 0} (xs ys end more rest : List A) → end ≡ xs ++ more → end ≡ ys ++ rest → (n : ℕ) → n < length xs → n < length ys
     → slice_get xs n ≡ slice_get ys n
 agree xs ys end more rest e f n l k =

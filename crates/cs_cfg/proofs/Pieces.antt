@@ -26,7 +26,7 @@ points_append (Spelled offset bytes ∷ xs) ys following = points_append xs ys f
 
 module _ (program : TypedProgram) where
   mutual
-    -- what is met first
+    -- the first control point
     pub first_same : (initial : Initial) (shape : Shape) (from : ℕ) (following : Next)
         → first_pieces (pieces program shape from initial) following ≡ first_initial initial following
     first_same (Value e) shape from following = refl
@@ -44,7 +44,7 @@ module _ (program : TypedProgram) where
         ∙ first_same one ty place (first_parts others following)
 
   mutual
-    -- the control points
+    -- all control points
     pub points_same : (initial : Initial) (shape : Shape) (from : ℕ) (following : Next)
         → points_pieces (pieces program shape from initial) following ≡ points_initial initial following
     points_same (Value e) shape from following = append-nil (points e following)

@@ -1,4 +1,4 @@
--- Steps touch a control point exactly where a run is at one: for the laws `lowered_code_follows_flow` and `programs_follow_flow`.
+-- Steps touch a control point exactly if the run is at one: for the laws `lowered_code_follows_flow` and `programs_follow_flow`.
 use Rattle.std.proofs.Common.{◌≡◌, ℕ, true, false, List, [], ◌∷◌, ◌++◌, inl, inr, Option, Some, None, refl, sym, ap, ◌∙◌, subst}
 use Rattle.std.specs.Prelude.{option_map}
 use Rattle.std.specs.Option.{option_to_list}
@@ -41,7 +41,7 @@ stores_none : (local : Option ℕ) (at : Place) → point_touched (option_map (�
 stores_none None at = refl
 stores_none (Some declaration) at = refl
 
--- what is noted of an operation is the control point that it is
+-- the touch reported for an operation is the control point that the operation is
 work_point : (at : Place) (work : Work) → point_touched (touch_of_work at work) ≡ met_in at work
 work_point at (Number n) = refl
 work_point at Null = refl
@@ -80,7 +80,7 @@ work_point at (Reach kind counted_point) = refl
 work_point at (Meet kind) = refl
 work_point at (Close nothing) = refl
 
--- and so of what stands first at a point
+-- and so for what comes first at a point
 first_point : (operations : List Operation) (end : BlockEnd) → point_touched (touch_first operations end) ≡ met_at operations end
 first_point [] (Jump block) = refl
 first_point [] (Branch at temporary one other) = refl
@@ -89,7 +89,7 @@ first_point [] (Return temporary) = refl
 first_point [] Finish = refl
 first_point (operation ∷ operations) end = work_point operation.at operation.work
 
--- a touch that is a control point is noted as one, and as no other
+-- a touch that is a control point is recorded as one, and as no other
 noted_as : (what : Option reported.Touch) (frame : ℕ) (one : Met) → point_touched what ≡ Some one
     → option_map (in_frame frame) what ≡ Some (Meets one.kind one.at)
 noted_as None frame one e = cc
@@ -111,7 +111,7 @@ is_noted (Some (touch.Load declaration there)) frame kind at e = cc
 is_noted (Some (touch.Store declaration there)) frame kind at e = cc
 is_noted (Some (touch.Clear declaration there)) frame kind at e = cc
 
--- the one touch that was added was noted
+-- the one touch that was added was reported
 just_noted : (noted : Option Touch) (one : Touch) → option_to_list noted ≡ one ∷ [] → noted ≡ Some one
 just_noted None one e = cc
 just_noted (Some other) one e = let same : other ≡ one = cc in ap Some same
@@ -121,7 +121,7 @@ none_added before one e =
     let none : [] ≡ one ∷ [] = go_on_alike before (append-nil before ∙ e) in
     cc
 
--- what was noted of a step that added a touch
+-- what was reported for a step that added a touch
 noted_of : {S : Type 0} (before : List Touch) (noted : Option Touch) (one : Touch) (done : Performed S) → HasTouched before noted done
     → (log_of done).touches ≡ before ++ one ∷ [] → noted ≡ Some one
 noted_of before noted one (Continues next log) has e = just_noted noted one (go_on_alike before (sym has ∙ e))
@@ -129,7 +129,7 @@ noted_of before noted one (Finishes outcome log) (inl none) e = absurd (none_add
 noted_of before noted one (Finishes outcome log) (inr has) e = just_noted noted one (go_on_alike before (sym has ∙ e))
 
 module _ (code : Code) (program : TypedProgram) (budgets : RunBudgets) (setting : Setting) where
-  -- a step that touches a control point comes from there
+  -- a step that touches a control point starts there
   pub stands_at_point : (m : CodeState) (log : Log) (one : Met) → TouchesPoint (code_step code program budgets) setting m log one
       → met_of m.frame.todo ≡ Some one
   stands_at_point m log one e =
@@ -138,7 +138,7 @@ module _ (code : Code) (program : TypedProgram) (budgets : RunBudgets) (setting 
       let noted = noted_of log.touches (option_map (in_frame m.frame.number) what) (Meets one.kind one.at) _ touched e in
       sym (first_point m.frame.todo.operations m.frame.todo.end) ∙ is_noted what m.frame.number one.kind one.at noted
 
-  -- a step from a control point touches it, where the run goes on
+  -- a step from a control point touches it, if the run continues
   pub touches_there : (m next : CodeState) (log later : Log) (one : Met) → met_of m.frame.todo ≡ Some one
       → perform setting log (code_step code program budgets m) ≡ Continues next later → TouchesPoint (code_step code program budgets) setting m log one
   touches_there m next log later one is e =

@@ -8,12 +8,12 @@ use Rattle.cs_cfg.specs.Graph.{Operation, Point, Flow, Code, flow_of}
 use Rattle.cs_cfg.specs.GraphPoints.{IsRest, Occurs}
 use Rattle.cs_cfg.specs.Spots.{rest_from, point_in, point_at}
 
--- what is left after so many operations
+-- what remains after so many operations
 left_following : (done operations : List Operation) → rest_from (length done) (done ++ operations) ≡ Some operations
 left_following [] operations = refl
 left_following (operation ∷ done) operations = left_following done operations
 
--- what is left of a block is at a number in it
+-- the rest of a block is at a number in it
 rest_at : (block p : Point) (rest : IsRest block p) → point_in block (length rest.done) ≡ Some p
 rest_at block p rest =
     ap (λ operations. option_map (λ left. record { operations = left; end = block.end }) (rest_from (length rest.done) operations)) rest.left

@@ -28,7 +28,7 @@ use Rattle.cs_cfg.proofs.Showing.{GoesOn, Shows, Shown, shown_none, shown_more, 
 use Rattle.cs_cfg.proofs.Starting.{Aims, starts_meet}
 use Rattle.cs_cfg.proofs.ShownStatements as statements
 
--- where a way leads out of a point, that is a control point
+-- a point with an edge out of it is a control point
 met_there : {flow : Flow} {p q : Point} {m : Met} {exit : Exit} → Leads flow p m exit q → IsMet p m
 met_there (onward {operation = operation} {p = p} is further) = by_operation {operation = operation} {p = p} is
 met_there on_truth = by_branch
@@ -37,12 +37,12 @@ met_there on_no_case = by_switch
 
 module _ (program : TypedProgram) (flow : Flow) (routine : Routine) (body : Statement) (has_body : routine.body ≡ Some body)
     (lowers : LowersBody program routine body flow) where
-  -- the body of the function, as it is found
+  -- the graph executes the body of the function
   executes_body : executes_at program flow routine lowers.labels (body_of routine) 0 finishing finishing lowers.inside lowers.following
   executes_body = subst (λ b. executes_at program flow routine lowers.labels b 0 finishing finishing lowers.inside lowers.following)
       (sym (executed routine body has_body)) lowers.executes
 
-  -- what is to be done at the end of the body stands after it
+  -- what is to be done at the end of the body follows the body
   ends_arrive : Arrives program flow routine lowers.labels (at_end routine) finishing finishing 0 lowers.following
   ends_arrive = (
     does routine.closes 0 (graph.Close lowers.nothing) leaving,
@@ -50,7 +50,7 @@ module _ (program : TypedProgram) (flow : Flow) (routine : Routine) (body : Stat
     (refl, (lowers.nothing, sym lowers.gives, refl), (finishing, there, (refl, there, there))),
   )
 
-  -- a label that is there is met where its `goto`s lead
+  -- an existing label is the next control point where its `goto`s lead
   label_met : (label : ℕ) (l : Landing) (found : Option Landing) → landing label (body_of routine) 0 (at_end routine) ≡ found
       → place_of (Some l) ≡ place_of found → MeetsNext flow (lowers.labels label) (met point.Label l.at)
   label_met label l None e same = cc
@@ -69,7 +69,7 @@ module _ (program : TypedProgram) (flow : Flow) (routine : Routine) (body : Stat
       joins_meet it.0 (label_met label l (landing label (body_of routine) 0 (at_end routine)) refl (ap place_of (sym e)
       ∙ placed_alike label (body_of routine) 0 [] (at_end routine)))
 
-  -- jumps lead where the targets of the body say
+  -- jumps lead to the targets of the body
   pub aims : Aims program flow routine lowers.labels (body_targets routine) finishing finishing
   aims = record {
     out_meets = never;
@@ -77,14 +77,14 @@ module _ (program : TypedProgram) (flow : Flow) (routine : Routine) (body : Stat
     labels_meet = λ label p q following it m. goto_meets label (landing label (body_of routine) 0 []) refl p q following it m;
   }
 
-  -- what is met after the body, and where it begins
+  -- the next control point after the body, and at its beginning
   end_met : MeetsNext flow lowers.following (end_of routine)
   end_met = joins_meet lowers.ends (point_meets routine.closes 0 (graph.Close lowers.nothing) leaving refl)
 
   pub body_meets : MeetsNext flow lowers.inside (starts (body_targets routine) (body_of routine) (end_of routine))
   body_meets = starts_meet program flow routine lowers.labels (body_of routine) 0 finishing finishing lowers.inside lowers.following aims executes_body end_met
 
-  -- each control point is in the graph, with all of its ways
+  -- each control point is in the graph, with all of its edges
   all_shown : Shown flow (control_points routine)
   all_shown =
       let enters = graph.Meet point.Enter in
@@ -125,7 +125,7 @@ module _ (program : TypedProgram) (flow : Flow) (routine : Routine) (body : Stat
             (some.0, way exit goes.0, some.1, goes.1, some.2, refl, goes.2)
 
 module _ (code : Code) (program : TypedProgram) (placed : IsPlaced code program) (fit : CodeFits code program) where
-  -- the same of a function, if it has a graph
+  -- the same for a function, if it has a graph
   reads : (function : ℕ) (body : Option Statement) (flow : Option Flow) → (routine_of program function).body ≡ body → flow_of code function ≡ flow
       → is_there flow ≡ is_there body →
       GraphFits (routine_of program function) flow → ReadsOff (routine_of program function) flow

@@ -1,4 +1,4 @@
--- The relation of states of the machine and of the code's run: frame by frame, the point does what is still to do.
+-- Related states of the machine and of the code's run: frame by frame, the point does what is still to be done.
 use Rattle.std.proofs.Common.{◌≡◌, ℕ, suc, List, [], ◌∷◌, length, Some}
 use Rattle.cs_ast.specs.TypedTree.{Statement}
 use Rattle.cs_ast.specs.TypedProgram.{TypedProgram}
@@ -31,13 +31,13 @@ module _ (code : Code) (program : TypedProgram) where
     pub joins : Joins program flow other.todo here
     pub stands : stands_at program flow (routine_of program frame.function) lowers.labels frame.todo out again depth here
 
-  -- the frames that called wait for a value
+  -- the calling frames wait for a value
   pub data CallersStand : List Frame → List (CallFrame Point) → Type 0 where
     nobody : CallersStand [] []
     waits : {frame : Frame} {frames : List Frame} {other : CallFrame Point} {others : List (CallFrame Point)} →
         FrameStands (suc (length frame.stack)) frame other → CallersStand frames others → CallersStand (frame ∷ frames) (other ∷ others)
 
-  -- a state of the code's run stands for one of the machine, step by step
+  -- a state of the code's run represents one of the machine, step by step
   pub record Aligned (m : State) (t : CodeState) : Type 0 where
     pub frame : FrameStands (length m.frame.stack) m.frame t.frame
     pub callers : CallersStand m.callers t.callers
@@ -46,7 +46,7 @@ module _ (code : Code) (program : TypedProgram) where
     pub allocations : t.allocations ≡ m.allocations
     pub calls : t.calls ≡ m.calls
 
-  -- the same, or the code's run comes there silently: where `&&` or `||` is known after its first part, the machine puts down the
+  -- the same, or the code's run gets there silently: if the first part of `&&` or `||` determines its value, the machine pushes the
   -- number in the same step, and the code in one of its own
   pub data Related (budgets : RunBudgets) (m : State) : CodeState → Type 0 where
     now : {t : CodeState} → Aligned m t → Related budgets m t

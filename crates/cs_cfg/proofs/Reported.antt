@@ -1,4 +1,4 @@
--- The touch of the instruction with a number in a block: for `Code::touch`.
+-- What is touched at a number in a block: for `Code::touch`.
 use Rattle.std.proofs.Common.{◌≡◌, ℕ, zero, suc, ◌-◌, ◌<◌, List, [], ◌∷◌, length, map, Some, None, Bor, arith, refl, sym, ap, ◌∙◌}
 use Rattle.std.specs.Prelude.{option_map, slice_get}
 use Rattle.std.specs.Slice.{IsItemAt}
@@ -26,7 +26,7 @@ following [] end (suc number) e = absurd (omega arith)
 following (first ∷ operations) end zero e = absurd (omega arith)
 following (first ∷ operations) end (suc number) e = following operations end number (omega arith)
 
--- nothing stands after the end
+-- nothing after the end
 nowhere : (operations : List Operation) (end : BlockEnd) (number : ℕ) → length operations < number →
     touch_in (record { operations = operations; end = end }) number ≡ None
 nowhere [] end zero l = absurd (omega arith)
@@ -35,7 +35,7 @@ nowhere (first ∷ operations) end zero l = absurd (omega arith)
 nowhere (first ∷ operations) end (suc number) l = nowhere operations end number (omega arith)
 
 module _ (operations : List o.Operation) (end : BlockEnd) (number : ℕ) where
-  -- the same of operations that are lent
+  -- the same for borrowed operations
   pub reported_inside : (one : Bor o.Operation) → IsItemAt operations number (Some one) →
       touch_of (operation one.now) ≡ touch_in (record { operations = map operation operations; end = end }) number
   reported_inside one is =
@@ -53,7 +53,7 @@ module _ (operations : List o.Operation) (end : BlockEnd) (number : ℕ) where
       let same = length-map operations operation in
       sym (nowhere (map operation operations) end number (omega arith))
 
--- a counted point is the first thing in a block
+-- a counted point comes first in a block
 reported_after_counted_point : (operations : List o.Operation) (end : BlockEnd) (counted_point : CountedPoint) (number : ℕ) → (number ≡ 0 → ⊥) →
     touch_in (record { operations = map operation operations; end = end }) (number - 1)
     ≡ touch_in (record { operations = with_counted_point (Some counted_point) (map operation operations); end = end }) number

@@ -1,4 +1,4 @@
--- If a run is done, the code's run is in a state that returns what the reference machine's does, with the same memory.
+-- If a run is done, the code's run has reached a state that returns what the reference machine's does, with the same memory.
 use Rattle.std.specs.Prelude.{◌⊎◌}
 use Rattle.std.proofs.Common.{◌≡◌, inl, inr, ℕ, List, [], ◌∷◌, length, Some, refl, sym, ap, ◌∙◌, subst}
 use Rattle.cs_ast.specs.TypedTree.{Statement}
@@ -28,7 +28,7 @@ use Rattle.cs_cfg.proofs.Staying.{IsLast, stays_or_leaves}
 use Rattle.cs_cfg.proofs.Runs.{both_end, code_ends, code_ends_only, code_pends, code_pends_only}
 
 module _ {State : Type 0} (step : State → Act State) (setting : Setting) where
-  -- two ways of a run to its end come to the same last state
+  -- two sequences of steps to the end of a run reach the same last state
   last_same : {m last last' : State} {log before before' end end' : Log} {outcome outcome' : Outcome} → Leads step setting m log last before
       → perform setting before (step last) ≡ Finishes outcome end →
       Leads step setting m log last' before' → perform setting before' (step last') ≡ Finishes outcome' end' → last ≡ last'
@@ -64,20 +64,20 @@ module _ (code : Code) (program : TypedProgram) (budgets : RunBudgets) (setting 
       let both : Continues next log ≡ Finishes outcome end = sym (ap (perform setting log) e) ∙ finish in
       absurd cc
 
-  -- in its last state the code's run has gone all jumps
+  -- in its last state the code's run has taken all jumps
   arrived : {flow : Flow} {p q : Point} (t : CodeState) (log end : Log) (outcome : Outcome) → Joins program flow p q → t.frame.todo ≡ p
       → perform setting log (code_step code program budgets t) ≡ Finishes outcome end → t.frame.todo ≡ q
   arrived t log end outcome there e finish = e
   arrived t log end outcome (jumps way) e finish =
       absurd (silent_goes t _ log end outcome (ap (λ (p : Point). step_at code program budgets p.operations p.end t) e) finish)
 
-  -- what touches, and goes on, doesn't end the run
+  -- what touches and then continues doesn't end the run
   not_finished : (log : Log) (kind : PointKind) (at : Place) (m : State) (end : Log) (what : Returned)
       → perform setting log (Touches (Meets kind at) (Goes m)) ≡ Finishes (Done what) end → ⊥
   unfolding perform
   not_finished log kind at m end what e = cc
 
-  -- what is done first in the machine's last state leaves the frame
+  -- the first thing to do in the machine's last state leaves the frame
   leaves_last : (item : Item) (items : List Item) (m : State) (log end : Log) (what : Returned) → (IsLast program item → ⊥)
       → perform setting log (do_item program budgets item (to_do items m)) ≡ Finishes (Done what) end → ⊥
   leaves_last item items m log end what other finish = decided (stays_or_leaves program budgets item (to_do items m))
@@ -86,7 +86,7 @@ module _ (code : Code) (program : TypedProgram) (budgets : RunBudgets) (setting 
       decided (inl leaves) = other leaves
       decided (inr never) = never_done setting log end what never finish
 
-  -- a point at which the machine's list is done, and where the run ends, returns the same
+  -- a point that does the machine's list, and where the run ends, returns the same
   returns_same : (todo : List Item) (m : State) (t : CodeState) (home : Home code program m.frame.function) (log end : Log) (what : Returned)
       → Aligned code program m t → stands code program home todo (length m.frame.stack) t.frame.todo →
       perform setting log (step_with program budgets todo m) ≡ Finishes (Done what) end → returned_with todo m ≡ code_returned t
@@ -98,7 +98,7 @@ module _ (code : Code) (program : TypedProgram) (budgets : RunBudgets) (setting 
   returns_same (Give at ∷ items) m t home log end what a it finish = absurd (not_finished log _ _ _ end what finish)
   returns_same (item ∷ items) m t home log end what a it finish = absurd (leaves_last item items m log end what (λ leaves. leaves) finish)
 
-  -- in related last states the same is returned, and memory is the same
+  -- related last states return the same, and have the same memory
   related_return : (m : State) (t : CodeState) (log log' end end' : Log) (what : Returned) (outcome : Outcome) → Related code program budgets m t
       → perform setting log (step program budgets m) ≡ Finishes (Done what) end →
       perform setting log' (code_step code program budgets t) ≡ Finishes outcome end' → (returned_value m ≡ code_returned t) × (m.memory ≡ t.memory)
@@ -112,7 +112,7 @@ module _ (code : Code) (program : TypedProgram) (budgets : RunBudgets) (setting 
       )
 
 module _ (code : Code) (program : TypedProgram) (placed : IsPlaced code program) where
-  -- where both runs are done, they return the same
+  -- if both runs are done, they return the same
   pub code_returns : (entry : ℕ) (body : Statement) (run : ProgramRun) (budgets : RunBudgets) (what : Returned) (log : Log)
       → (routine_of program entry).body ≡ Some body →
       (one : RunGives program entry run budgets (Done what) log) (other : CodeGives code program entry run budgets (Done what) log) →
@@ -133,6 +133,6 @@ module _ (code : Code) (program : TypedProgram) (placed : IsPlaced code program)
     returns = code_returns;
   }
 
-  -- placed code is the lowering of the program, where its control points are those of the statements
+  -- placed code is the lowering of the program, if its control points are those of the statements
   pub is_lowered : ((function : ℕ) → ReadsOff (routine_of program function) (flow_of code function)) → IsLowered code program
   is_lowered flows = record { graphs = placed.graphs; runs = runs_alike; flows = flows }

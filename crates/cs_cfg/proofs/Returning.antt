@@ -1,5 +1,5 @@
--- No operation returns from a run, or touches the end of a function, if what comes after it doesn't: at most it ends the run with a
--- fault, or over a budget.
+-- No operation returns from a run or touches the end of a function if what follows it doesn't: at most it ends the run with a fault or
+-- over a budget.
 use Rattle.std.specs.Prelude.{⊤}
 use Rattle.std.proofs.lemmas.List.{append-nil}
 use Rattle.std.proofs.Common.{◌≡◌, ℕ, ℤ, Bool, true, false, List, [], ◌∷◌, ◌++◌, append_assoc, refl, sym, ◌∙◌, subst, Option, Some}
@@ -26,12 +26,12 @@ use Rattle.cs_meaning.specs.Machine.{Operand}
 use Rattle.cs_cfg.specs.GraphPoints.{goes_on}
 use Rattle.cs_cfg.proofs.Onward.{IsNoReturn, Inherited, Each, EachOfTwo, keeps_writable, keeps_locate, keeps_value}
 
--- two lists that begin alike go on alike
+-- equal lists with the same beginning have the same rest
 pub go_on_alike : {T : Type 0} (begin : List T) {one other : List T} → begin ++ one ≡ begin ++ other → one ≡ other
 go_on_alike [] e = e
 go_on_alike (x ∷ begin) e = go_on_alike begin cc
 
--- what is touched doesn't end a function
+-- the touch doesn't end a function
 abbrev pub IsMidway : Touch → Type 0
 IsMidway (Meets kind at) = goes_on kind ≡ true
 IsMidway (Loads frame declaration at) = ⊤
@@ -49,7 +49,7 @@ record TouchedMidway (before after : List Touch) : Type 0 where
   is : after ≡ before ++ added
 
 module _ {S : Type 0} where
-  -- an act that goes on, or ends the run with a fault or over a budget, and touches no end of a function
+  -- an act that continues, or ends the run with a fault or over a budget, and touches no end of a function
   pub data NeverReturns : Act S → Type 0 where
     goes : {s : S} → NeverReturns (Goes s)
     stops : {outcome : Outcome} → IsNoReturn outcome → NeverReturns (Stops outcome)
@@ -88,7 +88,7 @@ module _ {S : Type 0} where
   in_room true at log end what h e = h e
   in_room false at log end what h e = cc
 
-  -- an act that never returns isn't the end of a run that is done
+  -- an act that never returns doesn't end a run as done
   pub never_done : (setting : Setting) (log end : Log) (what : Returned) {act : Act S} → NeverReturns act
       → perform setting log act ≡ Finishes (Done what) end → ⊥
   unfolding perform
@@ -108,7 +108,7 @@ module _ {S : Type 0} where
       in_room (allows_event setting log) at log end what (λ f. never_done setting (with_access log at object offset) end what h f) e
   never_done setting log end what (touches {touch = touch} midway h) e = never_done setting (with_touch log touch) end what h e
 
-  -- what such an act has touched doesn't end a function
+  -- what such an act touches doesn't end a function
   touched_if : (room : Bool) (before : List Touch) (done : Performed S) (outcome : Outcome) (log : Log) → log.touches ≡ before
       → TouchedMidway before (log_of done).touches → TouchedMidway before (log_of (if room then done else Finishes outcome log)).touches
   touched_if true before done outcome log e h = h

@@ -1,4 +1,4 @@
--- The runs of placed code end as those of the reference machine do, with the same pending at each event.
+-- Runs of placed code end as those of the reference machine do, and the same is pending in them.
 use Rattle.std.proofs.Common.{◌≡◌, ℕ, Option, Some, None, unwrap_or, refl, sym, subst}
 use Rattle.cs_ast.specs.TypedTree.{Statement}
 use Rattle.cs_ast.specs.TypedProgram.{TypedProgram}
@@ -21,7 +21,7 @@ use Rattle.cs_cfg.proofs.Related.{FrameStands, nobody, Related, now}
 use Rattle.cs_cfg.proofs.Entered.{frame_begins}
 use Rattle.cs_cfg.proofs.Simulating.{placed_simulates}
 
--- a graph is there where a body is
+-- a function with a body has a graph
 pub graph_is_there : (flow : Option Flow) (body : Option Statement) → is_there flow ≡ is_there body → (s : Statement) → body ≡ Some s
     → (graph : Flow) × (flow ≡ Some graph)
 graph_is_there (Some graph) body e s f = (graph, refl)
@@ -29,7 +29,7 @@ graph_is_there None None e s f = cc
 graph_is_there None (Some s') e s f = cc
 
 module _ (code : Code) (program : TypedProgram) (placed : IsPlaced code program) where
-  -- a run of the code begins related to the machine's
+  -- a run of the code begins in a state related to the machine's
   pub begin_related : (entry : ℕ) (body : Statement) (run : ProgramRun) (budgets : RunBudgets) → (routine_of program entry).body ≡ Some body
       → Related code program budgets (start_of program entry run) (code_start code program entry run)
   begin_related entry body run budgets e =

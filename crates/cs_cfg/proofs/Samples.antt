@@ -1,4 +1,4 @@
--- Samples: the text of a flow, and small graphs made by hand whose runs end as those of the reference machine.
+-- Samples: the text of a flow, and small hand-written graphs whose runs end as those of the reference machine.
 use Rattle.std.proofs.Common.{◌≡◌, ℕ, pos, true, false, [], ◌∷◌, map, Some, None, refl, sym, ap, ◌∙◌}
 use Rattle.std.specs.List.{range_with_len}
 use Rattle.cs_types.specs.declared.int_type.IntType.TheVariants.{Int}
@@ -44,7 +44,7 @@ fills_routine = defined 5 int 1 (named 110 int ∷ (named 97 (array int 3) ∷ (
 abbrev fills : TypedProgram
 fills = functions (fills_routine ∷ [])
 
--- its control points, with their ways
+-- its control points, with their edges
 fills_points : control_points fills_routine ≡
     record { kind = point.Enter; at = at 5; ways = way Onward (met point.Head (at 29)) ∷ [] }
     ∷ (record { kind = point.Head; at = at 29; ways = way Onward (met point.Branch (at 29)) ∷ [] }
@@ -95,33 +95,33 @@ fills_flow_graph = record {
 abbrev fills_code : Code
 fills_code = record { flows = Some fills_flow_graph ∷ [] }
 
--- what the block at the head of its loop touches, spot by spot: the operations, the end, and a spot that isn't there
+-- what the block at the head of its loop touches, spot by spot: the operations, the end, and a missing spot
 fills_touches : map (λ number. touch_at fills_code (record { function = 0; block = 1; operation = number })) (range_with_len 0 8) ≡
     Some (touch.Point point.Head (at 29))
     ∷ (None ∷ (Some (touch.Load 2 (at 37))
     ∷ (None ∷ (Some (touch.Load 0 (at 39)) ∷ (None ∷ (Some (touch.Point point.Branch (at 29)) ∷ (None ∷ [])))))))
 fills_touches = refl
 
--- a spot of its graph, as a function of its block and its number there
+-- a spot of its graph, by its block and its number there
 abbrev spot : ℕ → ℕ → Spot
 spot block number = record { function = 0; block = block; operation = number }
 
--- how many operands what stands at the spots of its first block takes: the operations, the end, and a spot that isn't there
+-- how many operands are taken at the spots of its first block: the operations, the end, and a missing spot
 fills_takes : map (λ number. takes_from (point_of fills_code (spot 0 number))) (range_with_len 0 9)
     ≡ 0 ∷ (0 ∷ (0 ∷ (0 ∷ (0 ∷ (2 ∷ (1 ∷ (0 ∷ (0 ∷ []))))))))
 fills_takes = refl
 
 -- the last operation of its first block leads to the end, the end to the head of the loop, the test at the end of the loop's head to no
--- one spot, and a spot that isn't there to none
+-- single spot, and a missing spot to none
 fills_leads : map (leads_at fills_code) (spot 0 6 ∷ (spot 0 7 ∷ (spot 1 6 ∷ (spot 0 8 ∷ []))))
     ≡ Some (spot 0 7) ∷ (Some (spot 1 0) ∷ (None ∷ (None ∷ [])))
 fills_leads = refl
 
--- so a run that has come to the end of the first block stands at the head, where something else stands than a jump
+-- so a run that has reached the end of the first block is at the head, where the instruction is no jump
 fills_settles : IsSettled fills_code (spot 0 7) (Some (spot 1 0))
 fills_settles = (jumps refl here, refl)
 
--- a block that jumps to itself and does nothing else: jumps lead on for ever
+-- a block that only jumps to itself: the jumps never end
 abbrev round : Code
 round = record { flows = Some (record { blocks = record { operations = []; end = Jump 0 } ∷ []; entry = 0; counted_points = 0 }) ∷ [] }
 
@@ -135,7 +135,7 @@ goes_round start same last (jumps {next = next} e way) =
 round_never_settles : IsSettled round (spot 0 0) None
 round_never_settles = goes_round (spot 0 0) refl
 
--- three elements are there
+-- the array has three elements
 fills_too_many : outcome_of (code_run fills_code fills 0 (plain (given 110 (pos 4) ∷ [])) USUAL 120) ≡ Some (Fault kind.Bounds (at 46))
 unfolding runs.perform
 fills_too_many = refl

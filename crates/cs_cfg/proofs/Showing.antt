@@ -1,4 +1,4 @@
--- When control points of a list are in a graph with all of their ways, and how this is combined. For the control points of placed
+-- When control points of a list are in a graph with all of their edges, and how this is composed. For the control points of placed
 -- code.
 use Rattle.std.specs.List.{All}
 use Rattle.std.proofs.Common.{◌≡◌, ℕ, true, false, List, [], ◌∷◌, ◌++◌, Some}
@@ -16,18 +16,18 @@ use Rattle.cs_cfg.specs.Placing.{does, split, used_then, Joins}
 use Rattle.cs_cfg.proofs.Keeping.{Kept, kept_past, kept_joins, occurs}
 
 module _ (flow : Flow) where
-  -- the graph leaves a point on a way, and meets next what the way says
+  -- the graph leaves a point by an edge, and the next control point is that of the edge
   abbrev pub GoesOn : Point → ControlPoint → Way → Type 0
   GoesOn p one w = (q : Point) × Leads flow p (the_point one.kind one.at) w.exit q × MeetsNext flow q w.next
 
-  -- a control point is in the graph, with all of its ways
+  -- a control point is in the graph, with all of its edges
   pub record Shows (one : ControlPoint) : Type 0 where
     pub there : Point
     pub occurs : Occurs flow there
     pub meets : IsMet there (the_point one.kind one.at)
     pub ways : All (GoesOn there one) one.ways
 
-  -- the same of each of a list
+  -- the same for each of a list
   pub record Shown (points : List ControlPoint) : Type 0 where
     pub all : All Shows points
 
@@ -41,7 +41,7 @@ module _ {flow : Flow} where
   pub shown_both : {xs ys : List ControlPoint} → Shown flow xs → Shown flow ys → Shown flow (xs ++ ys)
   shown_both {xs = xs} {ys = ys} first rest = record { all = All-append (Shows flow) xs ys first.all rest.all }
 
--- a point of the graph has been come to, after which so much of the list is in the graph
+-- a point of the graph has been reached, and these control points are in the graph
 pub record Walked (program : TypedProgram) (flow : Flow) (q : Point) (points : List ControlPoint) : Type 0 where
   pub kept : Kept program flow q
   pub shown : Shown flow points

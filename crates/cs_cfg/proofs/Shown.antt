@@ -1,4 +1,4 @@
--- Each control point of an expression is in the graph, with all of its ways, if the expression is placed at a point of the graph. For
+-- Each control point of an expression is in the graph, with all of its edges, if the expression is placed at a point of the graph. For
 -- the control points of placed code.
 use Rattle.std.proofs.Common.{◌≡◌, ℕ, suc, ◌+◌, pos, List, [], ◌∷◌, refl}
 use Rattle.cs_types.specs.Shape.{Shape}
@@ -22,7 +22,7 @@ module _ (program : TypedProgram) (flow : Flow) where
   leaf : (at : Place) (number : ℕ) (work : Work) (p q : Point) → p ≡ does at number work q → Kept program flow p → Walked program flow q []
   leaf at number work p q it kept = walked_past at number work q (walked_none (kept_same it kept))
 
-  -- a test, and what stands on its ways
+  -- a test, and the code on its edges
   pub tests_walk : (at : Place) (number one other : ℕ) {one_next other_next : Next} {q : Point} {others : List ControlPoint}
       → Kept program flow (split at number one other) →
       MeetsNext flow (block_of flow one) one_next → MeetsNext flow (block_of flow other) other_next → Walked program flow q others
@@ -35,13 +35,13 @@ module _ (program : TypedProgram) (flow : Flow) where
         → Walked program flow q (points e next)
     walks (Of at ty form) number p q it m kept = form_walks at ty form number p q it m kept
 
-    -- one whose value is used
+    -- an expression whose value is used
     pub used_walks : (e : Typed) (number : ℕ) (p q : Point) {next : Next} → used program flow e number p q → MeetsNext flow q next → Kept program flow p
         → Walked program flow q (points e next)
     used_walks (Of at ty form) number p q it m kept =
         walked_use (Of at ty form) number q (form_walks at ty form number p (used_then (Of at ty form) number q) it (use_meets (Of at ty form) number q m) kept)
 
-    -- and then an operation
+    -- an expression and then an operation
     then_does : (e : Typed) (number : ℕ) (p : Point) (at : Place) (to : ℕ) (work : Work) (q : Point) {next : Next}
         → used program flow e number p (does at to work q) →
         MeetsNext flow (does at to work q) next → Kept program flow p → Walked program flow q (points e next)
@@ -128,7 +128,7 @@ module _ (program : TypedProgram) (flow : Flow) where
         walked_past at number _ q (all_walk arguments number p _ it.1 (does_meets at number _ q refl m) kept)
     form_walks at ty (Free a) number p q it m kept = then_does a number p at number _ q it (does_meets at number _ q refl m) kept
 
-    -- and then jumps, as after both ways of `&&`, `||` and `?:`
+    -- an expression and then jumps, as after both edges of `&&`, `||` and `?:`
     joined_walks : (e : Typed) (number : ℕ) (p q : Point) {next : Next} → joined program flow e number p q → MeetsNext flow q next → Kept program flow p
         → Walked program flow q (points e next)
     joined_walks (Of at ty form) number p q it m kept =
@@ -142,7 +142,7 @@ module _ (program : TypedProgram) (flow : Flow) where
         walked_joins it.2 (walked_past place number graph.Judge it.0
         (walked_use (Of at ty form) number _ (form_walks at ty form number p _ it.1 (use_meets (Of at ty form) number _ later) kept)))
 
-    -- expressions in a row
+    -- a list of expressions
     pub all_walk : (row : TypedList) (number : ℕ) (p q : Point) {next : Next} → used_all program flow row number p q → MeetsNext flow q next
         → Kept program flow p → Walked program flow q (points_in row next)
     all_walk NoMore number p q it m kept = walked_none (kept_same it kept)

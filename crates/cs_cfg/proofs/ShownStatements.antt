@@ -1,4 +1,4 @@
--- Each control point of a statement is in the graph, with all of its ways, if the statement is placed at a point of the graph. For the
+-- Each control point of a statement is in the graph, with all of its edges, if the statement is placed at a point of the graph. For the
 -- control points of placed code.
 use Rattle.std.proofs.Common.{ℕ, ◌+◌, List, [], ◌∷◌, Option, Some, None, refl, subst}
 use Rattle.cs_ast.specs.declared.place.Place.{Place}
@@ -29,7 +29,7 @@ use Rattle.cs_cfg.proofs.Showing.{shows_last, shows_tested}
 use Rattle.cs_cfg.proofs.Shown.{walks, used_walks}
 use Rattle.cs_cfg.proofs.Starting.{stores_meet, last_meets, for_test_meets, Aims, aims_in_loop, aims_in_switch, starts_meet, all_start, from_start}
 
--- more control points before
+-- one more control point before the others
 also : {program : TypedProgram} {flow : Flow} {q : Point} {one : ControlPoint} {others : List ControlPoint} → Shows flow one → Walked program flow q others
     → Walked program flow q (one ∷ others)
 also shows walked = record { kept = walked.kept; shown = shown_more shows walked.shown }
@@ -47,7 +47,7 @@ module _ (program : TypedProgram) (flow : Flow) where
       let walked = used_walks program flow test 0 p _ it (split_meets at 0 one other) kept in
       record { itself = shows_tested at 0 one other walked.kept m m'; inside = walked.shown }
 
-  -- the test of a `for`, if it has one; the body is in the graph, and what stands after the loop
+  -- the test of a `for`, if it has one; the body is in the graph, and what follows the loop
   record ForTestShown (at : Place) (test : Option Typed) (inside q : Point) (body_next next : Next) : Type 0 where
     body : Kept program flow inside
     following : Kept program flow q

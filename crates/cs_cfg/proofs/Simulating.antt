@@ -1,4 +1,4 @@
--- The run of placed code follows the reference machine step by step: each state answers those related to it, whatever is to do first.
+-- The run of placed code follows the reference machine step by step: related states simulate each other, whatever is to be done first.
 use Rattle.std.proofs.Common.{◌≡◌, ℕ, List, [], ◌∷◌, length, refl}
 use Rattle.cs_ast.specs.TypedTree.{Statement, Block, Declare, Run, If, IfElse, While, Do, For, Switch, Goto, Label, Break, Continue, Return}
 use Rattle.cs_ast.specs.TypedProgram.{TypedProgram}
@@ -67,7 +67,7 @@ module _ (code : Code) (program : TypedProgram) (budgets : RunBudgets) where
       execute_answers (Return at value) counted_point items p q empty rest it =
           return_answers code program budgets m home callers waiting empty counted_point items p q rest at value it
 
-      -- the way of a statement
+      -- the edge of a statement
       decide_answers : (s : Statement) (counted_point : ℕ) (items : List Item) (p : Point) → length m.frame.stack ≡ 1 →
           decides_at program home.flow (routine_of program m.frame.function) home.lowers.labels s counted_point home.out home.again
           (λ d q. onward code program home items d q) p →
@@ -115,7 +115,7 @@ module _ (code : Code) (program : TypedProgram) (budgets : RunBudgets) where
       todo_answers placed ((Give at) ∷ items) p it = give_answers code program budgets m home callers waiting at items p it
       todo_answers placed (Leave ∷ items) p it = leave_answers code program budgets m home callers waiting items p it
 
-  -- related states answer one another
+  -- related states simulate each other
   pub placed_simulates : IsPlaced code program → Simulates (Related code program budgets) (step program budgets) (code_step code program budgets)
   placed_simulates placed = answers_all code program budgets (λ m t aligned.
       answers_here code program budgets m t aligned (λ home here callers s waiting. todo_answers m home callers waiting placed m.frame.todo here s))

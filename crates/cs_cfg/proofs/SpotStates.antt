@@ -30,7 +30,7 @@ module _ (code : Code) where
       in_flow None = refl
       in_flow (Some flow) = in_blocks (slice_get flow.blocks block)
 
-  -- after an operation the rest of the block is left
+  -- after an operation the rest of the block remains
   next_rest : (all : List Operation) (number : ℕ) (one : Operation) (rest : List Operation) → rest_from number all ≡ Some (one ∷ rest)
       → rest_from (number + 1) all ≡ Some rest
   next_rest [] zero one rest e = cc
@@ -86,7 +86,7 @@ module _ (code : Code) where
       found (operation ∷ operations) end e = cc
 
   module _ (program : TypedProgram) (budgets : RunBudgets) where
-    -- a step goes by what stands at the spot
+    -- a step is that of the instruction at the spot
     pub goes_by_spot : (m : SpotState) → code_step code program budgets (at_points code m) ≡ spot_step code program budgets m
     goes_by_spot m = by_first (point_of code m.frame.todo).operations (point_of code m.frame.todo).end refl
       where

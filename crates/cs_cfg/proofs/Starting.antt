@@ -1,4 +1,4 @@
--- What is reached first when a statement is executed follows from where it is placed. For the control points of placed code.
+-- The next control point where a statement is executed follows from where it is placed. For the control points of placed code.
 use Rattle.std.proofs.Common.{ℕ, zero, suc, ◌+◌, List, [], ◌∷◌, Option, Some, None, refl, subst}
 use Rattle.cs_ast.specs.declared.place.Place.{Place}
 use Rattle.cs_ast.specs.TypedTree.{Typed, Initial, Value, Parts, Bytes, Statement, Block, Declare, Run, If, IfElse, While, Do, For, Switch, Goto, Label, Break}
@@ -64,7 +64,7 @@ module _ (program : TypedProgram) (flow : Flow) (routine : Routine) (labels : �
   returns_meet at None p it = same_meets it (does_meets at 0 graph.Nothing _ refl (point_meets at 1 (graph.Meet point.Return) leaving refl))
   returns_meet at (Some e) p it = used_meets program flow e 0 p _ it (point_meets at 1 (graph.Meet point.Return) leaving refl)
 
-  -- where jumps lead, what the targets say is met
+  -- the next control points where jumps lead are those of the targets
   pub record Aims (to : Targets) (out again : Point) : Type 0 where
     pub out_meets : MeetsNext flow out to.out
     pub again_meets : MeetsNext flow again to.again

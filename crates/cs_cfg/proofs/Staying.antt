@@ -1,5 +1,5 @@
--- Whatever the reference machine has to do first, this doesn't return from the run, unless it ends a frame; and it doesn't touch the end of
--- a function, unless it is the end of one.
+-- Whatever the reference machine has to do first doesn't return from the run, unless it leaves a frame; and it touches no end of a
+-- function, unless it ends one.
 use Rattle.std.specs.Prelude.{⊤, ◌⊎◌}
 use Rattle.std.proofs.Common.{◌≡◌, refl, true, inl, inr, ℕ, ◌+◌, nat_lt, Bool, List, length, Option, Some, None, slice_get}
 use Rattle.cs_types.specs.Shape.{Shape, integer}
@@ -33,7 +33,7 @@ use Rattle.cs_cfg.proofs.Onward.{keeps_difference, keeps_arrow}
 use Rattle.cs_cfg.proofs.OnwardCalls.{keeps_within_depth, keeps_release, keeps_allocate, keeps_outside, keeps_use}
 use Rattle.cs_cfg.proofs.Returning.{NeverReturns, goes, stops, asks, touches, never, stays_touches, stays_load, stays_store}
 
--- the way of a test
+-- the edge of a test
 stays_branch : (at : Place) (cell : Cell) (next : Bool → State) → NeverReturns (branch at cell (λ holds. Goes (next holds)))
 stays_branch at cell next = keeps_truth never at cell (λ holds. touches refl (keeps_shows never at _ goes))
 

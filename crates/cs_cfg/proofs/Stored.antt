@@ -1,4 +1,4 @@
--- Declarations, and stores in declared objects, in the simulation (C11 6.7.9).
+-- Declarations, and storing in declared objects, in the simulation (C11 6.7.9).
 use Rattle.std.proofs.Common.{◌≡◌, ℕ, ◌+◌, List, [], ◌∷◌, length, drop, Option, Some, None, arith, refl, sym, subst}
 use Rattle.cs_types.specs.Shape.{Shape}
 use Rattle.cs_ast.specs.declared.place.Place.{Place}

@@ -1,4 +1,4 @@
--- A `switch` in the code takes the case that the reference machine takes (C11 6.8.4.2). For the simulation.
+-- A `switch` in the code takes the edge of the case that the reference machine takes (C11 6.8.4.2). For the simulation.
 use Rattle.std.proofs.Common.{◌≡◌, ℕ, ◌+◌, ℤ, Bool, true, false, List, [], ◌∷◌, length, drop, Option, Some, None, unwrap_or}
 use Rattle.std.proofs.Common.{if◌then◌else◌, arith, refl, sym, ap, ◌∙◌, subst}
 use Rattle.std.specs.Ordering.{int_eq}
@@ -27,14 +27,14 @@ use Rattle.cs_cfg.proofs.Related.{CallersStand, Related, now}
 use Rattle.cs_cfg.proofs.Moving.{uncut, Home, onward, with_depth, aligned, enters_block, Answer}
 use Rattle.cs_cfg.proofs.Arriving.{rest_arrives}
 
--- the case that is found, or else another
+-- the case that is found, or else any other number
 chosen_else : (cases : List Case) (statements : Statements) (found : Option Chosen)
     → chosen_case cases statements found ≡ unwrap_or found (record { number = values_in cases; item = default_item cases (count_of statements) })
 chosen_else cases statements (Some chosen) = refl
 chosen_else cases statements None = refl
 
 module _ (program : TypedProgram) (flow : Flow) (routine : Routine) (labels : ℕ → Point) (entries : ℕ → Point) where
-  -- a way shows the number of a case and leads to its entry
+  -- an edge shows the number of a case and leads to its entry
   record Picks (way : Way) (chosen : Chosen) : Type 0 where
     number : way.number ≡ chosen.number
     leads : block_of flow way.block ≡ entries chosen.item
@@ -73,7 +73,7 @@ module _ (program : TypedProgram) (flow : Flow) (routine : Routine) (labels : �
 
 module _ (code : Code) (program : TypedProgram) (budgets : RunBudgets) (m : State) (home : Home code program m.frame.function)
     (callers : List (CallFrame Point)) (waiting : CallersStand code program m.callers callers) where
-  -- the code's run shows a way and goes it, once the newest temporary is dropped
+  -- the code's run shows an edge and takes it, once the newest temporary is dropped
   switches_so : (at : Place) (ways : List SwitchCase) (otherwise : ℕ) → length m.frame.stack ≡ 1 →
       let way = way_of ways otherwise (number_in (cell_at m 0)) 0 in
       code_step code program budgets (as_code (record { operations = []; end = graph.Switch at 0 ways otherwise }) callers m)

@@ -1,4 +1,4 @@
--- Each step of the code's run touches what is reported for its point: for the law `steps_touch_as_reported`.
+-- Each step of the code's run touches what is reported for the point where it starts: for the law `steps_touch_as_reported`.
 use Rattle.std.proofs.Common.{◌≡◌, ℕ, nat_lt, ℤ, Bool, true, false, List, [], ◌∷◌, ◌++◌, inl, inr, Option, Some, None, slice_get}
 use Rattle.std.proofs.Common.{if◌then◌else◌, refl, sym, ap, ◌∙◌, subst}
 use Rattle.std.specs.Prelude.{option_map}
@@ -46,7 +46,7 @@ use Rattle.cs_cfg.proofs.Onward.{keeps_convert, keeps_sum, keeps_compare, keeps_
 use Rattle.cs_cfg.proofs.OnwardCalls.{keeps_release, keeps_allocate, keeps_enter, keeps_outside, keeps_use}
 
 module _ {S : Type 0} where
-  -- an act that touches just this on each way on which it goes on, and at most this where it ends the run
+  -- an act that touches exactly this if it continues, and at most this if it ends the run
   data TouchesJust : Option Touch → Act S → Type 0 where
     goes : {s : S} → TouchesJust None (Goes s)
     stops : {what : Option Touch} {outcome : Outcome} → TouchesJust what (Stops outcome)
@@ -66,7 +66,7 @@ module _ {S : Type 0} where
   silent : Inherited (TouchesJust None)
   silent = inherited None
 
-  -- the event that didn't fit into the budget ends the run, and nothing was touched
+  -- an event that exceeds the budget ends the run, and nothing was touched
   in_room : (room : Bool) (at : Place) (log : Log) (what : Option Touch) (done : Performed S) → HasTouched log.touches what done
       → HasTouched log.touches what (if room then done else Finishes (Over Events at) log)
   in_room true at log what done h = h
@@ -78,7 +78,7 @@ module _ {S : Type 0} where
   one_touch before one (Finishes outcome log) (inl e) = inr e
   one_touch before one (Finishes outcome log) (inr e) = inr (e ∙ append-nil (before ++ one ∷ []))
 
-  -- such an act has touched this once it was performed
+  -- performing such an act has touched this
   touched : (setting : Setting) (log : Log) {what : Option Touch} {act : Act S} → TouchesJust what act
       → HasTouched log.touches what (perform setting log act)
   unfolding perform
@@ -95,7 +95,7 @@ module _ {S : Type 0} where
       in_room (allows_event setting log) at log what _ (touched setting (with_access log at object offset) h)
   touched setting log (touches {one = one} h) = one_touch log.touches one _ (touched setting (with_touch log one) h)
 
-  -- what is said of a local of a frame
+  -- what is reported for a local of a frame
   touches_local : (frame : ℕ) (yields : ℕ → reported.Touch) (local : Option ℕ) {a : Act S} → TouchesJust None a →
       TouchesJust (option_map (in_frame frame) (option_map yields local)) (touches_then (λ declaration. in_frame frame (yields declaration)) local a)
   touches_local frame yields None h = h
@@ -138,7 +138,7 @@ touches_call program budgets at function routine (Some flow) arguments m =
     keeps_enter silent (λ m. goes) program budgets (code_frame function flow) at function routine arguments m
 
 module _ (code : Code) (program : TypedProgram) (budgets : RunBudgets) where
-  -- what an operation does touches what is said of it, as a touch of the frame that runs
+  -- an operation touches what is reported for it, in the running frame
   abbrev AsReported : Place → Work → CodeState → Type 0
   AsReported at work m = TouchesJust (option_map (in_frame m.frame.number) (touch_of_work at work)) (do_work code program budgets at work m)
 
@@ -203,14 +203,14 @@ module _ (code : Code) (program : TypedProgram) (budgets : RunBudgets) where
   end_touches (Return temporary) m = touches_leave m.callers _ m
   end_touches Finish m = touches_leave m.callers _ m
 
-  -- and so the step from a point
+  -- and so does the step from a point
   first_touches : (operations : List Operation) (end : BlockEnd) (m : CodeState)
       → TouchesJust (option_map (in_frame m.frame.number) (touch_first operations end)) (step_at code program budgets operations end m)
   first_touches [] end m = end_touches end m
   first_touches (operation ∷ operations) end m =
       work_touches operation.at operation.work (cut _ (to_do (record { operations = operations; end = end }) m))
 
-  -- a step touches what is said of what stands first at the point from which it comes
+  -- a step touches what is reported for what comes first at the point where it starts
   pub steps_touch : (setting : Setting) (m : CodeState) (log : Log)
       → HasTouched log.touches (option_map (in_frame m.frame.number) (touch_first m.frame.todo.operations m.frame.todo.end))
       (perform setting log (code_step code program budgets m))

@@ -1,4 +1,4 @@
--- A sample: a function with unreachable code, and a graph made by hand that is its lowering.
+-- A sample: a function with code to which nothing leads, and a hand-written graph that is its lowering.
 use Rattle.std.proofs.Common.{◌≡◌, ℕ, zero, suc, true, [], ◌∷◌, Some, None, refl, subst, arith}
 use Rattle.cs_types.specs.Shape.{void}
 use Rattle.cs_ast.specs.TypedTree.{Statement, Block, Label, Return, Empty}
@@ -36,7 +36,7 @@ points : control_points routine ≡
     ∷ (last_point point.Return (at 14) ∷ (passed point.Label (at 21) (met point.End (at 24)) ∷ (last_point point.End (at 24) ∷ [])))
 points = refl
 
--- after the label, at the label, at the `return`, and where the function begins
+-- after the label, at the label, at the `return`, and at the beginning of the function
 abbrev closes : Point
 closes = does (at 24) 0 (graph.Close true) leaving
 

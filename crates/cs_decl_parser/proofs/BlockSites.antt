@@ -49,7 +49,7 @@ use Rattle.cs_declarator_parser.proofs.PartStops.{single_stops, single_stands, n
 use Rattle.cs_decl_parser.proofs.StatementSites.{word_stands, punctuator_stands, taken_stands, exact_stands, node_taken}
 use Rattle.cs_decl_parser.proofs.Passing.{RowSoFar, row_none, row_stops, row_more, row_exactly, pass_stops, pass_stands, begins_near}
 
--- a block: what stands in it was refused
+-- a block: its items were refused
 pub block_stops : (names : Names) (limit : ℕ) (tokens : List Token) (from : ℕ) → 1 ≤ limit → kind_or_end tokens from ≡ open_brace
     → (s : Stop) → Stops (BlockRows names) (limit - 1) tokens (from + 1) s → Stops (Sentences names) limit tokens from s
 block_stops names limit tokens from some k s r =
@@ -73,7 +73,7 @@ block_taken names limit tokens from items whole some k t n =
       exactly = t.exactly;
     })))
 
--- what stands in a block, so far
+-- the items of a block, so far
 abbrev pub ItemsSoFar : Names → ℕ → List Token → ℕ → List RawItem → ℕ → ℕ → Type 0
 ItemsSoFar names limit tokens from done tall next = RowSoFar (block_growing names) limit tokens from (items_list done) tall next
 
@@ -122,7 +122,7 @@ items_taken names limit tokens from done tall next whole row closing tree height
       (λ other after. tt));
 }
 
--- what stands in a `switch`, so far
+-- the items of a `switch`, so far
 abbrev pub SwitchSoFar : Names → ℕ → List Token → ℕ → List RawSwitchItem → ℕ → ℕ → Type 0
 SwitchSoFar names limit tokens from done tall next = RowSoFar (switch_growing names) limit tokens from (switch_list done) tall next
 
@@ -230,7 +230,7 @@ switch_taken names limit tokens from value items whole enough k t brace i n =
     (exactly_stands (SwitchRows names) (limit - 2) tokens (value.next + 1) items.next (switch_items_of items.tree)
     (exact_stands (SwitchRows names) switch_items_of (limit - 2) tokens (value.next + 1) items i))))
 
--- a part of a `switch`, as the answer
+-- an item of a `switch`, as the result
 part_taken : (names : Names) (limit : ℕ) (tokens : List Token) (from : ℕ) (tree : SwitchItem) (whole : Taken RawSwitchItem)
     → switch_item whole.tree ≡ tree → whole.height ≡ switch_item_height tree → Standing (SwitchParts names) limit tokens from whole.next false tree
     → IsTaken (SwitchParts names) switch_item limit tokens from false whole
@@ -294,7 +294,7 @@ default_taken names limit tokens from whole k c tree height later =
     (exactly_stands (ClosedBy Ended colon) limit tokens (from + 1) (from + 1 + 1) tt
     (closed_stands Ended colon (λ part more. tt) (λ x. cc) limit tokens (from + 1) (from + 1) tt (ended_stands limit tokens (from + 1) w.within) c))))
 
--- what any block may have
+-- items that any block may have
 near_no_case : (first : TokenKind) (tokens : Kinds) → is_case first ≡ false → Near first tokens → HasNoCase tokens
 near_no_case first tokens e near t more same =
     elim near [

@@ -5,7 +5,7 @@ use Rattle.cs_ast.specs.declared.token.Token.{Token}
 use Rattle.cs_ast.specs.declared.token.TokenKind.{TokenKind}
 use Rattle.cs_ast.specs.declared.token.TokenKind.TheVariants as token
 
--- what is cloned is the same in each part
+-- each part of a clone is the same
 abbrev pub IsCopy : TokenKind → TokenKind → Type 0
 IsCopy (token.Keyword a) (token.Keyword b) = b ≡ a
 IsCopy (token.Unsupported a) (token.Unsupported b) = b ≡ a

@@ -119,12 +119,12 @@ type_stop names tokens from (stop.Refused at reason) r =
       }
     ]
 
--- the type was refused
+-- the specifiers were refused
 pub declared_type_stops : (names : Names) (tokens : List Token) (from : ℕ) → (kind_or_end tokens from ≡ token.Keyword keyword.Typedef → ⊥)
     → (s : Stop) → StopsOrBrace (FileSpecs names) 199 tokens from s → Stops (Externals names) 200 tokens from s
 declared_type_stops names tokens from other s r = parts_stop names tokens from other s (type_stop names tokens from s r)
 
--- what stands after the type was refused
+-- what follows the specifiers was refused
 pub rest_stops : (names : Names) (tokens : List Token) (from : ℕ) (type : Taken RawSpecs) → IsTypeTaken names tokens from type
     → (s : Stop) → Stops (ExternalRests names) 199 tokens type.next s → Stops (Externals names) 200 tokens from s
 rest_stops names tokens from type t s r =
@@ -146,7 +146,7 @@ rest_front names tokens from next rest some is sp =
     first_any (rest_text rest []) some (kind_or_end tokens next) (λ none. rest_some names rest [] is none)
     ∙ first_front tokens from next (rest_text rest []) (front_of (ExternalRests names) (rests_law names) tokens from next rest sp)
 
--- a part of a file was taken
+-- an external declaration was taken
 pub external_is : (names : Names) (tokens : List Token) (from : ℕ) (type : Taken RawSpecs) (rest : ExternalRest) (next tall : ℕ)
     (whole : Taken RawExternalKind) → IsTypeTaken names tokens from type → StandingExactly (ExternalRests names) 199 tokens type.next next rest
     → external_of whole.tree ≡ external_from (specs type.tree) rest → whole.height ≡ tall
@@ -171,7 +171,7 @@ external_is names tokens from type rest next tall whole t r tree height h later 
       exactly = subst (λ (y : External). Exactly (Externals names) 200 y) (sym tree) (external_exact names 200 e took);
     }
 
--- a list is cut at a place inside the first of two
+-- a list is cut at a position inside the first of two
 cut_before : (P Q F K : Kinds) → P ++ Q ≡ F ++ K → length F < length P
     → (x : TokenKind) × (xs : Kinds) × (P ≡ F ++ (x ∷ xs)) × (K ≡ x ∷ (xs ++ Q))
 cut_before [] Q F K same less = absurd (omega (arith, less))
@@ -194,7 +194,7 @@ cut_after (p ∷ ps) Q (f ∷ fs) K same more =
 abbrev plain_object : List PointerWord → List ℕ → Declared
 plain_object ps n = record { declarator = record { pointers = ps; name = n; bounds = [] }; initial = None }
 
--- objects are refused no earlier than after a name
+-- objects aren't refused before the end of the name
 early : (names : Names) (limit : ℕ) (ps : List PointerWord) (n : List ℕ) (front xs : Kinds) (x : TokenKind) (deep : Bool) → 1 ≤ limit
     → IsTrue (is_pointer ps) → IsFree names n → pointers_text ps (token.Name n ∷ []) ≡ front ++ (x ∷ xs)
     → Refused (Separated (Objects names) semicolon) limit front x deep → ⊥
@@ -216,7 +216,7 @@ named_length tokens from next ps n sp =
     spells_as tokens from next (λ rest. pointers_text ps (token.Name n ∷ rest)) (λ rest. pointers_text ps (token.Name n ∷ []) ++ rest) sp
     (λ rest. sym (pointers_append ps (token.Name n ∷ []) rest))
 
--- after a name without a parenthesis stands no function
+-- after a name without a parenthesis there is no function
 named_no_function : (names : Names) (tokens : List Token) (from : ℕ) (pointed : Taken Pointed) → IsPointed declaring.Names names tokens from pointed
     → (kind_or_end tokens pointed.next ≡ open_parenthesis → ⊥)
     → (front : Kinds) (at : ℕ) (deep : Bool) → Spells tokens from at (λ rest. front ++ rest)
@@ -243,7 +243,7 @@ named_no_function names tokens from pointed p other front at deep here r =
           (no_function_name names ps n c.0 (kind_or_end tokens at) (λ k. other (sym (first_front tokens pointed.next at c.0 sp) ∙ k)))
     ]
 
--- objects were refused, and they stand there
+-- the next tokens are those of objects, which were refused
 pub objects_stop : (names : Names) (tokens : List Token) (from : ℕ) (pointed : Taken Pointed) → IsPointed declaring.Names names tokens from pointed
     → (kind_or_end tokens from ≡ semicolon → ⊥) → (kind_or_end tokens pointed.next ≡ open_parenthesis → ⊥)
     → (s : Stop) → Stops (Separated (Objects names) semicolon) 199 tokens from s → Stops (ExternalRests names) 199 tokens from s
@@ -290,7 +290,7 @@ missing_function names tokens from at [] p unnamed following near ps n more q fr
 missing_function names tokens from at (w ∷ ws) p unnamed following near ps n more q free same =
     no_function_pointers names (w ∷ ws) (kind_or_end tokens at) p.no_star (λ k. let z = p.no_const k in cc) unnamed following near ps n more q free same
 
--- no name stands after the type
+-- no name follows the specifiers
 pub name_stops : (names : Names) (tokens : List Token) (from : ℕ) → (kind_or_end tokens from ≡ semicolon → ⊥)
     → (s : Stop) → PointedAnswers declaring.Names names tokens from (Err s) → Stops (Separated (Objects names) semicolon) 199 tokens from s
     → Stops (ExternalRests names) 199 tokens from s
@@ -311,12 +311,12 @@ name_stops names tokens from named (stop.Refused at reason) m r =
           (subst (λ (y : Kinds). NoFunction names y (kind_or_end tokens at)) (sym e) (missing_function names tokens from at m.words ps m.no_name)) r.refused;
     }
 
--- a semicolon stands after the type
+-- a semicolon follows the specifiers
 pub alone_exactly : (names : Names) (tokens : List Token) (from : ℕ) → kind_or_end tokens from ≡ semicolon
     → StandingExactly (ExternalRests names) 199 tokens from (from + 1) no_name
 alone_exactly names tokens from k = record { spelled = spells_one tokens from semicolon k (λ x. cc); exactly = rest_no_name names 199 }
 
--- what stands between the parentheses of a function was refused
+-- what is between the parentheses of a function was refused
 pub parameters_stop : (names : Names) (tokens : List Token) (from : ℕ) (pointed : Taken Pointed) → IsPointed declaring.Names names tokens from pointed
     → kind_or_end tokens pointed.next ≡ open_parenthesis → (s : Stop) → Stops (ParameterLists names) 198 tokens (pointed.next + 1) s
     → Stops (ExternalRests names) 199 tokens from s
@@ -373,7 +373,7 @@ ends_stop names tokens from next head h s r =
     (front_of (Heads names) (heads_law names) tokens from next head h.spelled)
     (λ front at deep here x. function_refused names 199 head h.exactly front (kind_or_end tokens at) deep x) s r
 
--- neither a semicolon nor a block stands after the head, or a block after one whose parameters haven't all a name
+-- neither a semicolon nor a block follows the head, or a block follows one whose parameters don't all have a name
 pub end_missing : (names : Names) (tokens : List Token) (from next : ℕ) (head : Head) (s : Stop) → StandingExactly (Heads names) 199 tokens from next head
     → (kind_or_end tokens next ≡ semicolon → ⊥) → (kind_or_end tokens next ≡ open_brace → AreNamed head.parameters → ⊥)
     → IsPlainStop scope.File tokens next s → Stops (ExternalRests names) 199 tokens from s
@@ -396,7 +396,7 @@ brace_after : (names : Names) (tokens : List Token) (from next : ℕ) (head : He
 brace_after names tokens from next head h k =
     spells_more tokens from next (next + 1) (head_text head) (λ rest. open_brace ∷ rest) h.spelled (spells_one tokens next open_brace k (λ x. cc))
 
--- what stands in the body was refused
+-- the items of the body were refused
 pub body_stops : (names : Names) (tokens : List Token) (from next : ℕ) (head : Head) → AreNamed head.parameters
     → StandingExactly (Heads names) 199 tokens from next head → kind_or_end tokens next ≡ open_brace
     → (s : Stop) → Stops (BlockRows names) 198 tokens (next + 1) s → Stops (ExternalRests names) 199 tokens from s
@@ -432,7 +432,7 @@ declarators_some names [] after some are same = some
 declarators_some names (d ∷ ds) after some are same = let i = are.0 in
     no_tokens (with_commas declarator_text (d ∷ ds) (semicolon ∷ after)) (pointers_start d.pointers d.name _ i.pointers) same
 
--- `typedef`: a type, and the names that it declares
+-- `typedef`: specifiers, and the names that it declares
 abbrev TypedefNames : Names → Class
 TypedefNames names = Separated (ObjectDeclarators names) semicolon
 
@@ -486,7 +486,7 @@ alias_types names tokens from (stop.Refused at reason) r =
       }
     ]
 
--- its type was refused
+-- its specifiers were refused
 pub typedef_type_stops : (names : Names) (tokens : List Token) (from : ℕ) → kind_or_end tokens from ≡ token.Keyword keyword.Typedef
     → (s : Stop) → StopsOrBrace (FileSpecs names) 199 tokens (from + 1) s → Stops (Externals names) 200 tokens from s
 typedef_type_stops names tokens from k s r = aliases_stop names tokens from k s (alias_types names tokens (from + 1) s r)
@@ -546,7 +546,7 @@ object_rows_stop : (names : Names) (tokens : List Token) (from : ℕ) (s : Stop)
     → Stops (Separated (Objects names) semicolon) 199 tokens from s
 object_rows_stop names tokens from s r = row_first_stops (Objects names) semicolon 199 (object_row names) (omega arith) tokens from s r
 
--- a name with its pointers begins with no semicolon
+-- a name with its pointers doesn't begin with a semicolon
 pointed_named : (names : Names) (tokens : List Token) (from : ℕ) (pointed : Taken Pointed) → IsPointed declaring.Names names tokens from pointed
     → kind_or_end tokens from ≡ semicolon → ⊥
 pointed_named names tokens from pointed p k =
@@ -556,7 +556,7 @@ pointed_named names tokens from pointed p k =
       | with_name name more e ↦ let f = kinds_first (drop from tokens) (token.Name name) more (sp.spelled ∙ e) in let z = sym f ∙ k in cc
     ]
 
--- a declared object after the type was refused
+-- a declared object after the specifiers was refused
 pub external_object_stops : (names : Names) (tokens : List Token) (from : ℕ) (type : Taken RawSpecs) (pointed : Taken Pointed)
     → IsTypeTaken names tokens from type → IsPointed declaring.Names names tokens type.next pointed
     → (kind_or_end tokens pointed.next ≡ open_parenthesis → ⊥) → (s : Stop) → Stops (Separated (Objects names) semicolon) 199 tokens type.next s
@@ -597,7 +597,7 @@ external_objects_taken names tokens from type list whole t l tree height later =
     (objects_exactly names tokens type.next list.next all (record { spelled = l.spelled; exactly = l.exactly })) tree height
     (objects_height names type.height list.height (specs type.tree) all k.height_is l.height_is) later
 
--- no name stands after the type
+-- no name follows the specifiers
 pub external_name_stops : (names : Names) (tokens : List Token) (from : ℕ) (type : Taken RawSpecs) → IsTypeTaken names tokens from type
     → (kind_or_end tokens type.next ≡ semicolon → ⊥) → (s : Stop) → PointedAnswers declaring.Names names tokens type.next (Err s)
     → Stops (Externals names) 200 tokens from s
@@ -610,7 +610,7 @@ external_name_stops names tokens from type t named s m =
 alone_height : (names : Names) (a : ℕ) (type : Specs) → a ≡ (FileSpecs names).tall type → a + 1 ≡ external_height (external_from type no_name)
 alone_height names a type e = omega (arith, e)
 
--- a type alone was taken
+-- specifiers without a declarator were taken
 pub external_alone_taken : (names : Names) (tokens : List Token) (from : ℕ) (type : Taken RawSpecs) (whole : Taken RawExternalKind)
     → IsTypeTaken names tokens from type → kind_or_end tokens type.next ≡ semicolon → external_of whole.tree ≡ external_from (specs type.tree) no_name
     → whole.height ≡ type.height + 1 → whole.next ≡ type.next + 1 → IsExactly (Externals names) external_of 200 tokens from whole
@@ -626,7 +626,7 @@ pub external_parameters_stop : (names : Names) (tokens : List Token) (from : ℕ
 external_parameters_stop names tokens from type pointed t p k s r =
     rest_stops names tokens from type t s (parameters_stop names tokens type.next pointed p k s r)
 
--- the head of a function, as it was made
+-- the head of a function, as it was built
 pub record HeadMade (names : Names) (tokens : List Token) (from : ℕ) (head : Taken RawFunction) : Type 0 where
   pub height_is : head.height ≡ head_height (head_view head.tree)
   pub stands : StandingExactly (Heads names) 199 tokens from head.next (head_view head.tree)
@@ -642,7 +642,7 @@ head_made names tokens from pointed list head p k t height later tree = record {
       (subst (λ (h : Head). StandingExactly (Heads names) 199 tokens from list.next h) (sym tree) (head_exactly names tokens from pointed list p k t));
 }
 
--- what stands after the head was refused
+-- what follows the head was refused
 pub external_end_missing : (names : Names) (tokens : List Token) (from : ℕ) (type : Taken RawSpecs) (head : Taken RawFunction) (s : Stop)
     → IsTypeTaken names tokens from type → HeadMade names tokens type.next head → (kind_or_end tokens head.next ≡ semicolon → ⊥)
     → (kind_or_end tokens head.next ≡ open_brace → AreNamed (parameters head.tree.parameters) → ⊥) → IsPlainStop scope.File tokens head.next s
@@ -692,7 +692,7 @@ external_definition_taken names tokens from type head body whole t h named k b t
     (definition_height names type.height head.height body.height (specs type.tree) (head_view head.tree) (items_of body.tree) y.height_is h.height_is
     b.height_is) later
 
--- a part of a file with its place
+-- an external declaration with its position
 pub placed_taken : (names : Names) (tokens : List Token) (from : ℕ) (inner : Taken RawExternalKind) (whole : Taken RawExternal)
     → IsExactly (Externals names) external_of 200 tokens from inner → whole.tree.kind ≡ inner.tree → whole.height ≡ inner.height
     → whole.next ≡ inner.next → IsExactly (Externals names) external 200 tokens from whole

@@ -17,7 +17,7 @@ use Rattle.cs_declarator_parser.specs.declared.source.Scope.TheVariants.{File}
 use Rattle.cs_declarator_parser.specs.Aptness.{IsApt}
 use Rattle.cs_decl_parser.specs.FileStops.{is_unsupported_after}
 
--- a token that isn't unsupported by its place, and for which the reason is apt
+-- a token that isn't unsupported because of its position, and for which the reason is possible
 punctuator_left : (front : Kinds) (m : Punctuator) → is_unsupported_after (token.Punctuator m) ≡ false → IsApt File (token.Punctuator m) Unsupported
     → IsUnsupportedOfFile front (token.Punctuator m)
 punctuator_left front punctuator.Ellipsis e a = tt

@@ -48,7 +48,7 @@ use Rattle.cs_grammar.proofs.FileReasons.{end_reason}
 use Rattle.cs_expr_parser.proofs.Standing.{past_end, kind_of_some, spells_none, spells_more, spells_as}
 use Rattle.cs_expr_parser.proofs.Stopping.{refused_number}
 
--- so many parts of a file were taken, after which these are the typedef names
+-- so many external declarations were taken, after which these are the typedef names
 pub record PartsSoFar (names : Names) (tokens : List Token) (done : List External) (next : ℕ) : Type 0 where
   pub spelled : Spells tokens 0 next (externals_text done)
   pub so_far : FileSoFar names 200 done
@@ -81,7 +81,7 @@ parts_more names later tokens done all next taken s t n e =
     subst (λ (m : Names). PartsSoFar m tokens (parts_of all) taken.next) (sym n)
     (subst (λ (x : List External). PartsSoFar (names_after names (external taken.tree)) tokens x taken.next) (sym list) more)
 
--- a part of the file was refused
+-- an external declaration was refused
 part_refused : (names : Names) (tokens : List Token) (done : List External) (next at : ℕ) (reason : Reason) → next < length tokens
     → PartsSoFar names tokens done next → IsRefused (Externals names) 200 tokens next at reason → IsApt scope.File (kind_or_end tokens at) reason
     → IsPartRefusedAt tokens at reason
@@ -107,7 +107,7 @@ part_refused names tokens done next at reason some s r apt =
       why = λ within e. reason_of_kind (externals_text done [] ++ r.front) (kind_or_end tokens at) reason f.further f.nothing apt e;
     }
 
--- the tokens of the part after those that were taken
+-- the tokens after those that were taken are in the next external declaration
 ends_in : (names : Names) (front more : Kinds) (next : TokenKind) (rest : List External) → IsFile names rest → externals_text rest [] ≡ front ++ more
     → Refused (Externals names) 200 front next false → 0 < length front → BeginsWith names front rest
 ends_in names [] more next rest is e r some = absurd (omega (arith, some))
@@ -162,7 +162,7 @@ pub file_stops : (names : Names) (tokens : List Token) (done : List External) (n
 file_stops names tokens done next some s stop.Memory r apt = tt
 file_stops names tokens done next some s (stop.Refused at reason) r apt = part_refused names tokens done next at reason some s r apt
 
--- all parts were taken
+-- all external declarations were taken
 pub file_taken : (names : Names) (tokens : List Token) (done : List External) (next : ℕ) → length tokens ≤ next → PartsSoFar names tokens done next
     → IsTheFile tokens done
 file_taken names tokens done next all s =
@@ -175,7 +175,7 @@ file_taken names tokens done next all s =
       only = t.2;
     }
 
--- nothing goes on with the token, or with the end of input, for the right reason; at the end of input that is a fault of syntax
+-- no file continues with the token, or with the end of input, for the right reason; the end of input is a syntax error
 refused_next : (tokens : List Token) (at : ℕ) (reason : Reason) (found : Option Token) → slice_get tokens at ≡ found
     → (r : IsTokenRefusedAt tokens at reason)
     → (GoesOnLow 200 r.stopped.front (option_map (λ (token : Token). token.kind) found) → ⊥)

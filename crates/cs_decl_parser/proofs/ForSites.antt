@@ -52,7 +52,7 @@ use Rattle.cs_decl_parser.proofs.StatementSites.{word_stands, punctuator_stands,
 use Rattle.cs_decl_parser.proofs.Passing.{pass_stops, pass_exactly}
 use Rattle.cs_decl_parser.proofs.LocalSites.{locals_law}
 
--- the first token begins a type, or none does
+-- whether the first token begins a type
 abbrev pub IsTyped : Bool → Names → Kinds → Type 0
 IsTyped typed names tokens = (first : TokenKind) (more : Kinds) → tokens ≡ first ∷ more → begins_type names first ≡ typed
 
@@ -164,7 +164,7 @@ first_declares_taken names limit tokens from inner whole t tree height later =
     (block_specs_begin names type (with_commas declared_text objects (semicolon ∷ following)) x.is_phrase.0) same)
     (exact_stands (Locals names) local_of limit tokens from inner t))
 
--- it declares nothing, and was refused
+-- it isn't a declaration, and was refused
 pub first_runs_stops : (names : Names) (limit : ℕ) (tokens : List Token) (from : ℕ) → begins_type names (kind_or_end tokens from) ≡ false
     → (s : Stop) → Stops (SomeBefore names semicolon) limit tokens from s → Stops (Firsts names) limit tokens from s
 first_runs_stops names limit tokens from e s r =
@@ -187,7 +187,7 @@ first_runs_taken names limit tokens from value whole t tree height later =
     (pass_exactly (Firsts names) (SomeBefore names semicolon) first_if_any (IsTyped false names) (runs_production names) limit tokens from value.next part
     (λ following. runs_typed names part following x.is_phrase) (exact_stands (SomeBefore names semicolon) (option_map written) limit tokens from value t))
 
--- what stands between the parentheses of a `for`
+-- the parts between the parentheses of a `for`
 abbrev Ends : Names → Class
 Ends names = Sequence (SomeBefore names semicolon) (SomeBefore names close_parenthesis)
 
@@ -220,7 +220,7 @@ controls_least names = after_least open_parenthesis (Parts names) (parts_least n
 pub controls_law : (names : Names) → Lawful (Controls names)
 controls_law names = after_law open_parenthesis (Parts names) (parts_law names)
 
--- no parenthesis stands after `for`
+-- no parenthesis follows `for`
 pub control_missing : (names : Names) (limit : ℕ) (tokens : List Token) (from : ℕ) (s : Stop) → from ≤ length tokens
     → (kind_or_end tokens from ≡ open_parenthesis → ⊥) → IsPlainStop scope.Block tokens from s → Stops (Controls names) limit tokens from s
 control_missing names limit tokens from s within other is =
@@ -316,7 +316,7 @@ control_taken names limit tokens from first test last whole k f t l tree height 
       exactly = subst (λ (p : (Controls names).Tree). Exactly (Controls names) limit p) (sym tree) e;
     }
 
--- `for` is what stands between parentheses, and a statement
+-- a `for` consists of the parts between its parentheses, and a statement
 abbrev for_of : (First × (Option Written × Option Written)) × Sentence → Sentence
 for_of part = For part.0.0 part.0.1.0 part.0.1.1 part.1
 
@@ -339,7 +339,7 @@ for_pair names = record {
   least_second = sentences_least names;
 }
 
--- what stands between the parentheses was refused
+-- a part between the parentheses was refused
 pub for_control_stops : (names : Names) (limit : ℕ) (tokens : List Token) (from : ℕ) → 2 ≤ limit → kind_or_end tokens from ≡ word keyword.For
     → (s : Stop) → Stops (Controls names) (limit - 1) tokens (from + 1) s → Stops (Sentences names) limit tokens from s
 for_control_stops names limit tokens from enough k s r =

@@ -1,4 +1,4 @@
--- Whether a file continues with a token, from the result of the parser for the tokens with that one after them: for the contract
+-- Whether a file continues with a token, from the result of the parser for the tokens with that one appended: for the contract
 -- of `file_goes_on`.
 use Rattle.std.proofs.Common.{◌≡◌, ℕ, zero, suc, ◌+◌, ◌<◌, ◌≤◌, ◌↔◌, Bool, true, false, IsTrue, ◌⊎◌, inl, inr, List, []}
 use Rattle.std.proofs.Common.{◌∷◌, ◌++◌, length, drop, refl, sym, ap, ◌∙◌, subst, arith, append_assoc, append-nil, length-drop}
@@ -55,7 +55,7 @@ count : (before : List Token) (next : Token) → length (before ++ next ∷ []) 
 count [] next = refl
 count (t ∷ before) next = let c = count before next in omega (arith, c)
 
--- none of the tokens before is refused, where a file that is low enough begins with them
+-- none of the tokens before is refused, if a file within the limit begins with them
 not_before : (before : List Token) (next : Token) (at : ℕ) (reason : Reason) → IsStoppedAt (before ++ next ∷ []) at reason
     → BeginsLowFile 200 (kinds before) → at < length before → ⊥
 not_before before next at reason r b less =
@@ -79,7 +79,7 @@ not_before before next at reason r b less =
 any_height : (front : Kinds) → BeginsLowFile 200 front → BeginsFile front
 any_height front b = record { file = b.file; more = b.more; is_file = b.is_file; spelled = b.spelled }
 
--- the end of input is refused after them all
+-- the end of input after all of them is refused
 at_the_end : (before : List Token) (next : Token) (at : ℕ) (reason : Reason) → IsStoppedAt (before ++ next ∷ []) at reason → length before < at
     → BeginsFile (kinds before ++ next.kind ∷ [])
 at_the_end before next at reason r less =

@@ -1,4 +1,4 @@
--- If a token is refused before the body of a function, no body has begun: for the contracts of the parts of files.
+-- If a token is refused before the body of a function, no body has begun: for the contracts of external declarations.
 use Rattle.std.proofs.Common.{◌≡◌, ℕ, ◌+◌, inl, inr, IsTrue, List, [], ◌∷◌, ◌++◌, Err, length, drop, refl, sym, ap, ◌∙◌, subst}
 use Rattle.std.proofs.Common.{arith, append-nil}
 use Rattle.std.proofs.lemmas.Bool.{false≢true}
@@ -47,7 +47,7 @@ name_shuts (pointer.Const ∷ ps) n x p = absurd (false≢true p)
 head_shuts : (names : Names) (h : Head) (x : Kinds) → IsHead names h → Follows ends_specs (head_text h x)
 head_shuts names h x is = name_shuts h.pointers h.name _ is.pointers
 
--- the type was refused
+-- the specifiers were refused
 type_unbegun : (names : Names) (tokens : List Token) (from at : ℕ) (reason : Reason) → IsRefused (FileSpecs names) 199 tokens from at reason
     → BeginsBody names tokens from at → ⊥
 type_unbegun names tokens from at reason r b =
@@ -69,7 +69,7 @@ type_body names tokens from (stop.Refused at reason) r = λ b.
       | inr y ↦ brace_apt scope.Block (kind_or_end tokens at) reason y.brace
     ]
 
--- no body is begun after `typedef`
+-- no body has begun after `typedef`
 typedef_unbegun : (names : Names) (tokens : List Token) (from at : ℕ) → kind_or_end tokens from ≡ token.Keyword keyword.Typedef
     → BeginsBody names tokens from at → ⊥
 typedef_unbegun names tokens from at k b =
@@ -82,7 +82,7 @@ pub typedef_body : (names : Names) (tokens : List Token) (from : ℕ) (s : Stop)
 typedef_body names tokens from stop.Memory k = tt
 typedef_body names tokens from (stop.Refused at reason) k = λ b. absurd (typedef_unbegun names tokens from at k b)
 
--- what stands after the type that was taken
+-- what follows the specifiers that were taken
 after_type : (names : Names) (tokens : List Token) (from at : ℕ) (type : Taken RawSpecs) → IsTypeTaken names tokens from type
     → (b : BeginsBody names tokens from at) → kinds (drop type.next tokens) ≡ head_text b.head (open_brace ∷ (b.inside ++ kinds (drop at tokens)))
 after_type names tokens from at type t b =
@@ -102,7 +102,7 @@ no_name_among (pointer.Star ∷ ws) [] n x same = cc
 no_name_among (pointer.Const ∷ ws) [] n x same = cc
 no_name_among (w ∷ ws) (p ∷ ps) n x same = no_name_among ws ps n x cc
 
--- no name stands after the type
+-- no name follows the specifiers
 name_unbegun : (names : Names) (tokens : List Token) (from at : ℕ) (reason : Reason) (type : Taken RawSpecs) → IsTypeTaken names tokens from type
     → IsNameMissing declaring.Names names tokens type.next at reason → BeginsBody names tokens from at → ⊥
 name_unbegun names tokens from at reason type t m b =
@@ -128,7 +128,7 @@ same_names (pointer.Star ∷ ps) [] n m x y same = absurd cc
 same_names (pointer.Const ∷ ps) [] n m x y same = absurd cc
 same_names (p ∷ ps) (q ∷ qs) n m x y same = same_names ps qs n m x y cc
 
--- what stands after the name that was taken
+-- what follows the name that was taken
 after_name : (names : Names) (tokens : List Token) (from at : ℕ) (type : Taken RawSpecs) (pointed : Taken Pointed) → IsTypeTaken names tokens from type
     → IsPointed declaring.Names names tokens type.next pointed
     → (b : BeginsBody names tokens from at) → kinds (drop pointed.next tokens)
@@ -138,7 +138,7 @@ after_name names tokens from at type pointed t p b =
     same_names pointed.tree.pointers.items b.head.pointers pointed.tree.name.name b.head.name (kinds (drop pointed.next tokens)) _ (sym s.spelled
     ∙ after_type names tokens from at type t b)
 
--- no parenthesis stands after the name
+-- no parenthesis follows the name
 objects_unbegun : (names : Names) (tokens : List Token) (from at : ℕ) (type : Taken RawSpecs) (pointed : Taken Pointed) → IsTypeTaken names tokens from type
     → IsPointed declaring.Names names tokens type.next pointed → (kind_or_end tokens pointed.next ≡ open_parenthesis → ⊥)
     → BeginsBody names tokens from at → ⊥
@@ -151,7 +151,7 @@ pub objects_body : (names : Names) (tokens : List Token) (from : ℕ) (type : Ta
 objects_body names tokens from type pointed t p other stop.Memory = tt
 objects_body names tokens from type pointed t p other (stop.Refused at reason) = λ b. absurd (objects_unbegun names tokens from at type pointed t p other b)
 
--- what stands between the parentheses was refused
+-- what is between the parentheses was refused
 parameters_unbegun : (names : Names) (tokens : List Token) (from at : ℕ) (reason : Reason) (type : Taken RawSpecs) (pointed : Taken Pointed)
     → IsTypeTaken names tokens from type → IsPointed declaring.Names names tokens type.next pointed → kind_or_end tokens pointed.next ≡ open_parenthesis
     → IsRefused (ParameterLists names) 198 tokens (pointed.next + 1) at reason → BeginsBody names tokens from at → ⊥
@@ -176,7 +176,7 @@ parameters_body names tokens from type pointed t p k stop.Memory r = tt
 parameters_body names tokens from type pointed t p k (stop.Refused at reason) r = λ b.
     absurd (parameters_unbegun names tokens from at reason type pointed t p k r b)
 
--- neither a semicolon nor a body stands after the head
+-- neither a semicolon nor a body follows the head
 end_unbegun : (names : Names) (tokens : List Token) (from : ℕ) (type : Taken RawSpecs) (head : Taken RawFunction) → IsTypeTaken names tokens from type
     → HeadMade names tokens type.next head → BeginsBody names tokens from head.next → ⊥
 end_unbegun names tokens from type head t h b =
@@ -192,7 +192,7 @@ pub end_body : (names : Names) (tokens : List Token) (from : ℕ) (type : Taken 
     → HeadMade names tokens type.next head → (s : Stop) → IsPlainStop scope.File tokens head.next s → IsStopInBody names tokens from s
 end_body names tokens from type head t h s is = subst (IsStopInBody names tokens from) (sym is) (λ b. absurd (end_unbegun names tokens from type head t h b))
 
--- what stands in a body was refused
+-- an item of a body was refused
 pub inside_body : (names : Names) (tokens : List Token) (from : ℕ) (s : Stop) → IsStopApt scope.Block tokens s → IsStopInBody names tokens from s
 inside_body names tokens from stop.Memory a = tt
 inside_body names tokens from (stop.Refused at reason) a = λ b. a

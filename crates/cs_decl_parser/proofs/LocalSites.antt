@@ -72,7 +72,7 @@ local_single names = record {
 pub locals_law : (names : Names) → Lawful (Locals names)
 locals_law names = (declares_single names).law
 
--- a declaration that begins with a token, as low as one can be
+-- a declaration of the least height that begins with a token
 record LocalExample (names : Names) (t : TokenKind) : Type 0 where
   phrase : Specs × List Declared
   more : Kinds
@@ -92,7 +92,7 @@ local_example names t e =
           ∙ x.spelled (with_commas declared_text (least_object names ∷ []) (semicolon ∷ []));
     }
 
--- a declaration is refused at its first token only where the limit doesn't allow any
+-- a declaration is refused at its first token only if the limit doesn't allow any
 local_first : (names : Names) (limit : ℕ) (next : TokenKind) (deep : Bool) → begins_type names next ≡ true → Refused (Locals names) limit [] next deep
     → (deep ≡ true) × (limit < 2)
 local_first names limit next deep e r =
@@ -158,7 +158,7 @@ specs_stop names limit tokens from some (stop.Refused at reason) r =
       }
     ]
 
--- the type of a declaration was refused
+-- the specifiers of a declaration were refused
 pub local_type_stops : (names : Names) (limit : ℕ) (tokens : List Token) (from : ℕ) → 2 ≤ limit → from ≤ length tokens
     → (s : Stop) → StopsOrBrace (BlockSpecs names) (limit - 1) tokens from s → Stops (Locals names) limit tokens from s
 local_type_stops names limit tokens from enough within s r =
@@ -280,7 +280,7 @@ declares_lift names limit tokens from e other (f ∷ fs) at deep here x =
     unlabelled_colon (kind_or_end tokens from) (kind_or_end tokens (from + 1)) n other (sym k ∙ name)
     (sym (second_is tokens from at f fs here (type_no_end names f typed)) ∙ c))) x
 
--- what stands in a block is a declaration, which was refused
+-- an item of a block that is a declaration was refused
 pub declares_stops : (names : Names) (limit : ℕ) (tokens : List Token) (from : ℕ) → begins_type names (kind_or_end tokens from) ≡ true
     → is_labelled (kind_or_end tokens from) (kind_or_end tokens (from + 1)) ≡ false → (s : Stop) → Stops (Locals names) limit tokens from s
     → Stops (BlockItems names) limit tokens from s
@@ -299,7 +299,7 @@ item_taken names limit tokens from next tree tall whole e height h later s = rec
       (subst (λ (x : Item). Took (BlockItems names) limit x (kind_or_end tokens next) false) (sym e) s.took);
 }
 
--- one lower, without the node
+-- a declaration without the node of its item is one lower
 lower_local : (names : Names) (limit : ℕ) (d : Specs × List Declared) → Exactly (Locals names) limit d
     → (next : TokenKind) → Took (BlockDeclarations names) (limit - 1) d next false
 lower_local names limit d x next =
@@ -339,7 +339,7 @@ does_pass names limit front next deep fits x =
     tail_refused (BlockItems names) (Sentences names) limit limit [] Does (IsStatement names) (sentences_law names)
     (pass_tail (BlockItems names) (Sentences names) Does (IsStatement names) limit (does_single names).production) front next deep fits x
 
--- a label is as high as two
+-- a label with an empty statement has height 2
 label_here : (names : Names) (limit : ℕ) (n : List ℕ) (front following : Kinds) (next : TokenKind) (deep : Bool)
     → front ++ following ≡ token.Name n ∷ colon ∷ semicolon ∷ [] → Near next following → Refused (Sentences names) limit front next deep
     → (deep ≡ true) × (limit < 2)
@@ -377,7 +377,7 @@ does_label names limit tokens from n name c (f ∷ g ∷ gs) at deep here x =
     let z : g ∷ (gs ++ following) ≡ more = cc in
     inr (gs ++ following, sym z ∙ ap (λ (y : TokenKind). y ∷ (gs ++ following)) s)) x
 
--- no declaration stands there: a label, or no type
+-- the next item isn't a declaration: it is a label, or the token begins no type
 abbrev pub IsNoDeclaration : Names → List Token → ℕ → Type 0
 IsNoDeclaration names tokens from = (begins_type names (kind_or_end tokens from) ≡ false)
     ⊎ (is_labelled (kind_or_end tokens from) (kind_or_end tokens (from + 1)) ≡ true)
@@ -392,7 +392,7 @@ does_lift names limit tokens from (inr e) front at deep here x =
     let l = label_name (kind_or_end tokens from) (kind_or_end tokens (from + 1)) e in
     does_label names limit tokens from l.0 l.1 l.2 front at deep here x
 
--- what stands in a block is a statement, which was refused
+-- an item of a block that is a statement was refused
 pub does_stops : (names : Names) (limit : ℕ) (tokens : List Token) (from : ℕ) → IsNoDeclaration names tokens from
     → (s : Stop) → Stops (Sentences names) limit tokens from s → Stops (BlockItems names) limit tokens from s
 does_stops names limit tokens from other s r =

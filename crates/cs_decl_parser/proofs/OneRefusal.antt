@@ -26,7 +26,7 @@ use Rattle.cs_unsupported.proofs.InsideFiles.{split}
 use Rattle.cs_decl_parser.specs.Files.{GoesOnLow, IsFileRefusedAt, IsFileRefusal, RefusalsAreOne}
 use Rattle.cs_decl_parser.proofs.WholeFiles.{with_first}
 
--- a file that begins with tokens goes on with each of them
+-- a file that begins with tokens continues with each of them
 goes_on_before : (tokens : List Token) (at other : ℕ) (one two : Kinds) → Spells tokens 0 at (λ rest. one ++ rest)
     → Spells tokens 0 other (λ rest. two ++ rest) → at < other → BeginsLowFile 200 two → (found : Option Token) → slice_get tokens at ≡ found
     → GoesOnLow 200 one (option_map (λ (t : Token). t.kind) found)
@@ -54,7 +54,7 @@ goes_on_before tokens at other one two s t less b (Some token) e =
     ])
 goes_on_before tokens at other one two s t less b None e = absurd (let all = past_end tokens at e in let within = t.within in omega arith)
 
--- none is refused before another one
+-- no token is refused before another one
 never_later : (tokens : List Token) (at other : ℕ) (reason reason' : Reason) → IsFileRefusedAt tokens at reason → IsFileRefusedAt tokens other reason'
     → at < other → ⊥
 never_later tokens at other reason reason' r s less =

@@ -31,7 +31,7 @@ pass_tail C D build Fit limit p = record {
   rises = λ part high. let t = p.taller part in omega (arith, t, high);
 }
 
--- a phrase of D was refused, and those of C that begin so are made of these
+-- a phrase of D was refused, and those of C with this beginning consist of one
 pub pass_stops : (C D : Class) (build : D.Tree → C.Tree) (Fit : Kinds → Type 0) → Production C D 0 [] build Fit → Lawful D
     → (limit : ℕ) (tokens : List Token) (from : ℕ) → FitsAll Fit tokens from → (s : Stop) → Stops D limit tokens from s
     → Stops C limit tokens from s
@@ -49,7 +49,7 @@ pass_stands C D build Fit p law limit tokens from next deep part fits t = record
       t.took;
 }
 
--- the same of what is determined by its tokens
+-- the same for a phrase that is determined by its tokens
 pub pass_exactly : (C D : Class) (build : D.Tree → C.Tree) (Fit : Kinds → Type 0) → Production C D 0 [] build Fit
     → (limit : ℕ) (tokens : List Token) (from next : ℕ) (part : D.Tree) → ((following : Kinds) → Fit (D.spell part following))
     → StandingExactly D limit tokens from next part → StandingExactly C limit tokens from next (build part)
@@ -67,7 +67,7 @@ pass_exactly C D build Fit p limit tokens from next part fits t =
       };
     }
 
--- the first token of a phrase is determined by it, whatever stands after it
+-- the first token of a phrase is determined by it, whatever follows it
 pub begins_near : (C : Class) → Lawful C → (test : TokenKind → Bool) (tokens : List Token) (from next : ℕ) (c : C.Tree)
     → BeginsWith test (C.spell c []) → Spells tokens from next (C.spell c) → (following : Kinds) → Near (kind_or_end tokens from) (C.spell c following)
 begins_near C law test tokens from next c b sp following =
@@ -76,7 +76,7 @@ begins_near C law test tokens from next c b sp following =
     kinds_first (drop from tokens) b.first (b.others ++ kinds (drop next tokens)) (sp.spelled ∙ text (kinds (drop next tokens))) in
     inr (b.others ++ following, text following ∙ ap (λ (t : TokenKind). t ∷ (b.others ++ following)) (sym k))
 
--- a row so far, with its tokens
+-- a list so far, with its tokens
 pub record RowSoFar {L C : Class} {all : Listing L C} (grow : Growing L C all) (limit : ℕ) (tokens : List Token) (from : ℕ) (done : L.Tree)
     (tall next : ℕ) : Type 0 where
   pub spelled : Spells tokens from next (grow.row_text done)
@@ -93,11 +93,11 @@ row_none {L} {C} {all} grow limit tokens from within = record {
       (Near (kind_or_end tokens from)) (grown_none grow limit) refl (λ part. refl) (λ following near. tt);
 }
 
--- a row ends with a closing brace
+-- a list ends with a closing brace
 abbrev pub EndsWithBrace : {L C : Class} (all : Listing L C) → Type 0
 EndsWithBrace {L} all = (after : Kinds) → L.spell all.none after ≡ close_brace ∷ after
 
--- a phrase of the row was refused
+-- a phrase of the list was refused
 pub row_stops : {L C : Class} {all : Listing L C} (grow : Growing L C all) → EndsWithBrace all
     → (limit : ℕ) (tokens : List Token) (from : ℕ) (done : L.Tree) (tall next : ℕ) → RowSoFar grow limit tokens from done tall next
     → (kind_or_end tokens next ≡ close_brace → ⊥) → (s : Stop) → Stops C limit tokens next s → Stops L limit tokens from s
@@ -127,7 +127,7 @@ row_more {L} {C} {all} grow limit tokens from done tall next row c later t test 
           (λ reported. absurd (false≢true reported)) (λ following near. begins_near C all.law test tokens next later c b t.spelled following);
     }
 
--- the closing brace stands after the row
+-- the closing brace follows the list
 pub row_exactly : {L C : Class} {all : Listing L C} (grow : Growing L C all) → EndsWithBrace all
     → (limit : ℕ) (tokens : List Token) (from : ℕ) (done : L.Tree) (tall next : ℕ) → RowSoFar grow limit tokens from done tall next
     → kind_or_end tokens next ≡ close_brace → Exactly L limit all.none → ((other : L.Tree) (after : Kinds) → L.Shut other after)

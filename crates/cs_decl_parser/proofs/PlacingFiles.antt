@@ -46,7 +46,7 @@ head_placed names tokens at pointed parameters f built p a =
     ∙ one_after tokens pointed.next in
     built (drop at tokens) p.1 (subst (AreParametersPlaced parameters) (sym two) a)
 
--- a function with no body
+-- a function without a body
 pub function_placed : (tokens : List Token) (from next : ℕ) (s : RawSpecs) (f : RawFunction) → Spells tokens from next (specs_text (specs s))
     → HasSpecPlaces s (drop from tokens) → IsHeadPlaced f (drop next tokens)
     → HasSpecPlaces s (drop from tokens) × IsHeadPlaced f (past (specs_text (specs s)) (drop from tokens))
@@ -78,7 +78,7 @@ definition_placed tokens from next later s f body sp sh a h b =
           (after_text (IsBodyPlaced body) (head_text (head f)) (head_append (head f)) tokens next later sh b),
     )
 
--- parts of a file, so far
+-- the external declarations so far
 abbrev pub PartsPlaced : List Token → List RawExternal → ℕ → Type 0
 PartsPlaced tokens done next = SidePlaced IsExternalPlaced (λ e. external_text (external e)) tokens 0 done next
 

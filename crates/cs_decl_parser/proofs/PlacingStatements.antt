@@ -45,11 +45,11 @@ use Rattle.cs_expr_parser.proofs.Stopping.{refused_number}
 use Rattle.cs_decl_parser.proofs.ForSites.{controls_law}
 use Rattle.cs_declarator_parser.proofs.Placing.{IsFramed, one_after, past_text, after_text, after_text_and_one, SidePlaced, side_begun, side_goes_on}
 
--- some tokens on from an index
+-- the tokens after some tokens from an index
 pub on : (tokens : List Token) (from many next : ℕ) → next ≡ from + many → drop many (drop from tokens) ≡ drop next tokens
 on tokens from many next e = drop-drop many from tokens ∙ ap (λ (n : ℕ). drop n tokens) (sym e)
 
--- a test after a word
+-- what follows a keyword and a test
 pub past_word_and_test : (tokens : List Token) (from next : ℕ) (test : Written) → Spells tokens (from + 1) next (test_text test)
     → past (test_text test) (drop 1 (drop from tokens)) ≡ drop next tokens
 past_word_and_test tokens from next test sp = ap (past (test_text test)) (one_after tokens from)
@@ -58,7 +58,7 @@ past_word_and_test tokens from next test sp = ap (past (test_text test)) (one_af
 test_stands : (tokens : List Token) (from : ℕ) (test : RawExpr) → HasPlaces test (drop (from + 1 + 1) tokens) → HasPlaces test (drop 2 (drop from tokens))
 test_stands tokens from test p = subst (HasPlaces test) (sym (on tokens from 2 (from + 1 + 1) (omega arith))) p
 
--- rows of items
+-- the items of a block or of a `switch`
 items_in : (n : _) (row : kinds.Row_of-RawItem n) (list : List Token) → AreItemsBeside (kinds.items-the_row-RawItem n row) list → AreItemsPlaced row list
 items_in n kinds.end_of-RawItem list a = tt
 items_in n (kinds.more_of-RawItem first others) list a = (a.0, items_in _ others (past (item_text (item first)) list) a.1)
@@ -83,7 +83,7 @@ switch_made value items list v a =
           (subst (λ (x : List RawSwitchItem). AreSwitchItemsBeside x there) (sym (kinds.items_hidden-the_row-RawSwitchItem-1 items)) a),
     )
 
--- `continue` and `break` have no part
+-- `continue` and `break` have no parts
 jump_is : (next : TokenKind) (s : Sentence) → IsJump next s → (s ≡ Continue) ⊎ (s ≡ Break)
 jump_is (token.Keyword keyword.Continue) s j = inl j
 jump_is (token.Keyword keyword.Break) s j = inr j
@@ -151,7 +151,7 @@ pub return_placed : (tokens : List Token) (from : ℕ) (at : Place) (value : Opt
     → StandsAt at (drop from tokens) → IsSomePlaced value (drop (from + 1) tokens) → HasStatementPlaces whole (drop from tokens)
 return_placed tokens from at value whole made s v = made (drop from tokens) s (subst (IsSomePlaced value) (sym (one_after tokens from)) v)
 
--- an expression that may lack, with the punctuator after it
+-- an expression that may be absent, with the punctuator after it
 some_framed : (e : Option Written) (close : TokenKind) → IsFramed (λ rest. some_text e (close ∷ rest))
 some_framed e close x y = optional_append e (close ∷ x) y
 
@@ -181,7 +181,7 @@ control_placed tokens at after_first after_test parts sf st f t l =
 framed_length : (spell : Kinds → Kinds) → IsFramed spell → (x : Kinds) → length (spell x) ≡ length (spell []) + length x
 framed_length spell law x = ap length (sym (law [] x)) ∙ length-append (spell []) x
 
--- how many tokens the parts of a `for` are, with both parentheses
+-- how many tokens the parts of a `for` have, with both parentheses
 control_length : (names : Names) (parts : ForParts)
     → length ((Controls names).spell (control_of parts) [])
     ≡ 1 + (length (first_text (first_of parts.first) []) + length (some_text (option_map written parts.test) []) + 1
@@ -203,7 +203,7 @@ past_parts list f t l =
     ap (λ (x : List Token). drop 1 (drop l (drop 1 x))) (drop-drop t f list) ∙ ap (λ (x : List Token). drop 1 (drop l x)) (drop-drop 1 (f + t) list)
     ∙ ap (λ (x : List Token). drop 1 x) (drop-drop l (f + t + 1) list) ∙ drop-drop 1 (f + t + 1 + l) list
 
--- after the parts of a `for`, which stand after its word
+-- what follows the parts of a `for` and its keyword
 past_control : (names : Names) (tokens : List Token) (from next : ℕ) (parts : ForParts)
     → Spells tokens (from + 1) next ((Controls names).spell (control_of parts))
     → past_test parts.last (past_test parts.test (past_first parts.first (drop 2 (drop from tokens)))) ≡ drop next tokens
@@ -226,7 +226,7 @@ loop_placed names tokens from at parts next body whole made s sp a p =
     made (drop from tokens) s (subst (AreForPartsPlaced parts) (sym (on tokens from 2 (from + 1 + 1) (omega arith))) a)
     (subst (HasStatementPlaces body) (sym (past_control names tokens from next parts sp)) p)
 
--- what was declared
+-- specifiers and the objects that they declare
 pub declaration_placed : (tokens : List Token) (from next : ℕ) (s : RawSpecs) (objects : List RawInit) → Spells tokens from next (specs_text (specs s))
     → HasSpecPlaces s (drop from tokens) → AreObjectsPlaced objects (drop next tokens) → IsDeclarationPlaced s objects (drop from tokens)
 declaration_placed tokens from next s objects sp a b =
@@ -237,7 +237,7 @@ pub case_placed : (tokens : List Token) (from : ℕ) (at : Place) (value : RawEx
     → HasPlaces value (drop (from + 1) tokens) → StandsAt at (drop from tokens) × HasPlaces value (drop 1 (drop from tokens))
 case_placed tokens from at value s v = (s, subst (HasPlaces value) (sym (one_after tokens from)) v)
 
--- items, so far
+-- the items so far
 abbrev pub ItemsPlaced : List Token → ℕ → List RawItem → ℕ → Type 0
 ItemsPlaced = SidePlaced IsItemPlaced (λ i. item_text (item i))
 

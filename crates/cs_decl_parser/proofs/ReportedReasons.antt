@@ -77,7 +77,7 @@ either_why : (front : Kinds) (next : TokenKind) (out : Bool) → (BeginsFile (fr
 either_why front next true none is = (none, is.0 refl)
 either_why front next false none is = (none, λ left. false≢true (is.1 left))
 
--- the tokens before it say whether it is unsupported, where no file continues with it
+-- the tokens before it decide whether it is unsupported, if no file continues with it
 reported_after : (tokens : List Token) (at : ℕ) (reason : Reason) (out : Bool) → is_deep reason ≡ false
     → (BeginsLowFile 200 (kinds (take at tokens)) → (BeginsFile (kinds (take at tokens) ++ kind_or_end tokens at ∷ []) → ⊥)
     → IsTrue out ↔ IsUnsupportedOfFile (kinds (take at tokens)) (kind_or_end tokens at)) → IsPartRefusedAt tokens at reason
@@ -132,7 +132,7 @@ list_punctuator front out (token.Punctuator punctuator.OpenBracket) d is = is
 list_punctuator front out (token.Punctuator _) d is = absurd (false≢true d)
 list_punctuator front out _ d is = absurd (false≢true d)
 
--- a dot and an opening bracket are unsupported where a list of initial values may open
+-- a dot and an opening bracket are unsupported where an initializer list may open
 pub reported_list : (tokens : List Token) (at : ℕ) (reason : Reason) (out : Bool) → is_deep reason ≡ false
     → is_designator (kind_or_end tokens at) ≡ true
     → (BeginsLowFile 200 (kinds (take at tokens)) → IsTrue out ↔ MayHave (kinds (take at tokens)) opens_list) → IsPartRefusedAt tokens at reason
@@ -140,7 +140,7 @@ pub reported_list : (tokens : List Token) (at : ℕ) (reason : Reason) (out : Bo
 reported_list tokens at reason out flat d is r =
     reported_after tokens at reason out flat (λ b none. list_punctuator (kinds (take at tokens)) out (kind_or_end tokens at) d (is b)) r
 
--- a list may open where a value is awaited, and a file continues with a brace
+-- a list may open where an initializer is expected, and a file continues with a brace
 pub list_reported : (front : Kinds) (awaits : Bool)
     → (MayHave front opens_list ↔ (IsTrue awaits × BeginsFile (front ++ token.Punctuator punctuator.OpenBrace ∷ [])))
     → (out : Bool) → (awaits ≡ false → out ≡ false)
@@ -156,7 +156,7 @@ reported_brace tokens at reason out flat k is r =
     reported_after tokens at reason out flat (λ b none.
     subst (λ (x : TokenKind). IsTrue out ↔ IsUnsupportedOfFile (kinds (take at tokens)) x) (sym k) (is (any_height (kinds (take at tokens)) b))) r
 
--- a parenthesis is unsupported where a declarator's name may stand
+-- a parenthesis is unsupported where a declarator's name is allowed
 pub reported_parenthesis : (tokens : List Token) (at : ℕ) (reason : Reason) (out : Bool) → is_deep reason ≡ false → kind_or_end tokens at ≡ opening
     → (BeginsLowFile 200 (kinds (take at tokens)) → (BeginsFile (kinds (take at tokens) ++ opening ∷ []) → ⊥)
     → IsTrue out ↔ MayHave (kinds (take at tokens)) declared_name) → IsPartRefusedAt tokens at reason → IsTokenRefusedAt tokens at (unsupported_if out)

@@ -70,7 +70,7 @@ keyword_expression names keyword.Switch e f = absurd (false≢true (sym f))
 keyword_expression names keyword.While e f = absurd (false≢true (sym f))
 keyword_expression names _ e f = absurd (false≢true e)
 
--- what begins a statement and no other one begins an expression
+-- a token that begins a statement, and none of another form, begins an expression
 begins_run : (names : Names) (t : TokenKind) → begins_sentence t ≡ true → begins_other_sentence t ≡ false
     → ((n : List ℕ) → t ≡ token.Name n → is_among names n ≡ false) → begins_expression names t ≡ true
 begins_run names (token.Name n) e f free = not_from_false (is_among names n) (free n refl)
@@ -101,7 +101,7 @@ expression_not_low names (token.Keyword k) e = keyword_not_low k e
 expression_not_low names (token.Unsupported w) e = absurd (false≢true e)
 expression_not_low names token.Attribute e = absurd (false≢true e)
 
--- the tokens of an expression and more begin one with what closes it
+-- a token that begins an expression begins one with the token that closes it
 closed_example : (names : Names) (t : TokenKind) → begins_expression names t ≡ true → Begins (Closed names) (t ∷ [])
 closed_example names t e =
     let b = expression_example names t e in
@@ -112,7 +112,7 @@ closed_example names t e =
       spelled = sym (text_append b.phrase [] (semicolon ∷ [])) ∙ ap (λ (x : Kinds). x ++ semicolon ∷ []) b.spelled;
     }
 
--- where the limit is small, an expression statement is refused at its first token
+-- if the limit is small, an expression statement is refused at its first token
 little_front : (names : Names) (front : Kinds) → (front ≡ []) ⊎ BeginsLow (Closed names) 0 front → front ≡ []
 little_front names front (inl none) = none
 little_front names front (inr b) = let h = expression_height b.phrase in let l = b.low in absurd (omega (arith, h, l))
@@ -165,7 +165,7 @@ second_colon : (fs following more : Kinds) (next : TokenKind) → (first_or fs n
 second_colon [] following more next other near same = near_other colon next following more other near (sym same)
 second_colon (g ∷ gs) following more next other near same = other cc
 
--- a name is no expression that is refused where the limit allows it
+-- a name isn't refused as an expression if the limit allows it
 no_name_refused : (names : Names) (limit : ℕ) (n : List ℕ) (deep : Bool) → 1 ≤ limit → is_among names n ≡ false
     → Refused (Closed names) limit [] (token.Name n) deep → ⊥
 no_name_refused names limit n deep some free r =
@@ -251,7 +251,7 @@ ended_stands limit tokens from within = record {
   took = exact_took Ended limit tt (ended_exact limit) (kind_or_end tokens from);
 }
 
--- no semicolon stands after `continue` or `break`
+-- no semicolon follows `continue` or `break`
 jump_missing : (names : Names) (limit : ℕ) (tokens : List Token) (from : ℕ) (tree : Sentence) (s : Stop) (k : TokenKind) → 1 ≤ limit
     → kind_or_end tokens from ≡ k → IsJump k tree → (kind_or_end tokens (from + 1) ≡ semicolon → ⊥)
     → IsPlainStop scope.Block tokens (from + 1) s → Stops (Sentences names) limit tokens from s
@@ -275,7 +275,7 @@ jump_stops names limit tokens from tree s some j other is = jump_missing names l
 two_on : (from : ℕ) → from + 1 + 1 ≡ from + 2
 two_on from = omega arith
 
--- it does
+-- a semicolon does
 jump_there : (names : Names) (limit : ℕ) (tokens : List Token) (from : ℕ) (tree : Sentence) (whole : Taken RawStmt) (k : TokenKind) → 1 ≤ limit
     → kind_or_end tokens from ≡ k → IsJump k tree → kind_or_end tokens (from + 1) ≡ semicolon → IsNode tree 1 (from + 2) whole
     → IsTaken (Sentences names) statement_of limit tokens from false whole

@@ -9,7 +9,7 @@ use Rattle.cs_expr_parser.specs.Parts.{Spells}
 use Rattle.cs_expr_parser.proofs.Standing.{stands, kinds_first}
 use Rattle.cs_expr_parser.proofs.Stopping.{refused_number}
 
--- the second of some tokens, the first of which is no end
+-- the second of some tokens, the first of which isn't the end of input
 pub second_front : (tokens : List Token) (from at : ℕ) (f : TokenKind) (fs : Kinds) → Spells tokens from at (λ rest. (f ∷ fs) ++ rest)
     → (f ≡ token.Attribute → ⊥) → Spells tokens (from + 1) at (λ rest. fs ++ rest)
 second_front tokens from at f fs sp some =

@@ -16,7 +16,7 @@ use Rattle.cs_decl_parser.specs.declared.form.Form.{Form}
 use Rattle.cs_decl_parser.specs.declared.form.Form.TheVariants as form
 use Rattle.cs_decl_parser.specs.Forms.{least, keyword_form, punctuator_form, is_colon, name_form, form_of, is_labelled}
 
--- what a form says of the first tokens
+-- what a form implies for the first tokens
 abbrev pub Yields : Names → Form → TokenKind → TokenKind → Type 0
 Yields names form.Block first second = first ≡ token.Punctuator punctuator.OpenBrace
 Yields names form.Empty first second = first ≡ token.Punctuator punctuator.Semicolon
@@ -89,7 +89,7 @@ keyword_full names keyword.Break limit full = sentence_none names limit (token.K
 keyword_full names keyword.Return limit full = sentence_none names limit (token.Keyword keyword.Return) full refl
 keyword_full names _ limit full = absurd (omega (arith, full))
 
--- the limit doesn't allow the least statement of a form
+-- the limit doesn't allow the lowest statement of a form
 pub form_full : (names : Names) (first second : TokenKind) (limit : ℕ) → limit < least (form_of names first second)
     → Refused (Sentences names) limit [] first true
 form_full names (token.Name name) second limit full =
@@ -123,7 +123,7 @@ run_name_form true t e = absurd cc
 run_name_form false true e = absurd cc
 run_name_form false false e = (refl, refl)
 
--- a name that begins an expression is none of a typedef, and has no colon after it
+-- a name that begins an expression isn't a typedef name, and no colon follows it
 pub run_name : (names : Names) (name : List ℕ) (second : TokenKind) → form_of names (token.Name name) second ≡ form.Run
     → (is_colon second ≡ false) × (is_among names name ≡ false)
 run_name names name second e = run_name_form (is_colon second) (is_among names name) e

@@ -44,17 +44,17 @@ use Rattle.cs_declarator_parser.proofs.PartStops.{pair_second_stops, pair_stands
 use Rattle.cs_declarator_parser.proofs.PartStops.{closed_missing, closed_stands}
 use Rattle.cs_decl_parser.proofs.StatementForms.{Yields, form_yields, form_full, label_name, no_colon}
 
--- a word stands there
+-- one token that is a keyword
 pub word_stands : (tokens : List Token) (at : ℕ) (k : Keyword) → kind_or_end tokens at ≡ token.Keyword k
     → Spells tokens at (at + 1) (λ rest. token.Keyword k ∷ rest)
 word_stands tokens at k e = spells_one tokens at (token.Keyword k) e (λ x. cc)
 
--- a punctuator stands there
+-- one token that is a punctuator
 pub punctuator_stands : (tokens : List Token) (at : ℕ) (m : Punctuator) → kind_or_end tokens at ≡ token.Punctuator m
     → Spells tokens at (at + 1) (λ rest. token.Punctuator m ∷ rest)
 punctuator_stands tokens at m e = spells_one tokens at (token.Punctuator m) e (λ x. cc)
 
--- what was taken stands there
+-- a phrase that was taken, with its tokens
 pub taken_stands : {A : Type 0} (C : Class) (view : A → C.Tree) (limit : ℕ) (tokens : List Token) (from : ℕ) (deep : Bool) (taken : Taken A)
     → IsTaken C view limit tokens from deep taken → Standing C limit tokens from taken.next deep (view taken.tree)
 taken_stands C view limit tokens from deep taken t = record { spelled = t.spelled; took = t.took }
@@ -63,7 +63,7 @@ pub exact_stands : {A : Type 0} (C : Class) (view : A → C.Tree) (limit : ℕ) 
     → IsExactly C view limit tokens from taken → StandingExactly C limit tokens from taken.next (view taken.tree)
 exact_stands C view limit tokens from taken t = record { spelled = t.spelled; exactly = t.exactly }
 
--- a statement that was taken, as the answer
+-- a statement that was taken, as the result
 pub node_taken : (names : Names) (limit : ℕ) (tokens : List Token) (from : ℕ) (tree : Sentence) (tall next : ℕ) (whole : Taken RawStmt)
     → IsNode tree tall next whole → tall ≡ sentence_height tree → Standing (Sentences names) limit tokens from next false tree
     → IsTaken (Sentences names) statement_of limit tokens from false whole
@@ -76,7 +76,7 @@ node_taken names limit tokens from tree tall next whole n h s = record {
       (subst (λ (e : Sentence). Took (Sentences names) limit e (kind_or_end tokens next) false) (sym n.tree_is) s.took);
 }
 
--- the limit doesn't allow the least statement of the form
+-- the limit doesn't allow the lowest statement of the form
 pub statement_full : (names : Names) (limit : ℕ) (tokens : List Token) (from : ℕ) (s : Stop) → from ≤ length tokens
     → limit < least (form_of names (kind_or_end tokens from) (kind_or_end tokens (from + 1))) → s ≡ stop.Refused from TooDeep
     → Stops (Sentences names) limit tokens from s
@@ -91,7 +91,7 @@ reported_form names tokens from f e =
     subst (λ (x : Form). Yields names x (kind_or_end tokens from) (kind_or_end tokens (from + 1))) e
     (form_yields names (kind_or_end tokens from) (kind_or_end tokens (from + 1)))
 
--- a typedef name without a colon after it
+-- a typedef name that no colon follows
 pub unlabelled_stops : (names : Names) (limit : ℕ) (tokens : List Token) (from : ℕ) (s : Stop) → 2 ≤ limit
     → form_of names (kind_or_end tokens from) (kind_or_end tokens (from + 1)) ≡ form.Unlabelled → IsPlainStop scope.Block tokens (from + 1) s
     → Stops (Sentences names) limit tokens from s

@@ -23,7 +23,7 @@ pub with_first : (front : Kinds) (rest : List Token) → 1 ≤ length rest → f
 with_first front [] some = absurd (omega (arith, some))
 with_first front (token ∷ rest) some = sym (append_assoc front (token.kind ∷ []) (kinds rest))
 
--- the file goes on with each of its tokens, and with its end
+-- the file continues with each of its tokens, and with its end
 goes_on : (tokens : List Token) (file : List External) (front : Kinds) (at : ℕ) → IsTheFile tokens file → Spells tokens 0 at (λ rest. front ++ rest)
     → (found : Option Token) → slice_get tokens at ≡ found → GoesOnLow 200 front (option_map (λ (t : Token). t.kind) found)
 goes_on tokens file front at h s (Some t) e =

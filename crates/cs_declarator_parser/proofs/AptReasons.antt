@@ -82,7 +82,7 @@ pub designator_apt : (scope : Scope) (next : TokenKind) → is_designator next �
 designator_apt scope (token.Punctuator m) e = left_apt scope (token.Punctuator m) (designator_punctuator scope m e)
 designator_apt scope _ e = absurd (false≢true e)
 
--- a brace may have each reason
+-- each reason is possible for a brace
 pub brace_apt : (scope : Scope) (next : TokenKind) (reason : Reason) → next ≡ token.Punctuator punctuator.OpenBrace → IsApt scope next reason
 brace_apt File next reason e = record {
   out = λ o l. false≢true (sym (ap (is_unsupported File) e) ∙ o);
@@ -93,7 +93,7 @@ brace_apt Block next reason e = record {
   kept = λ k l. false≢true (sym k ∙ ap may_be_out e);
 }
 
--- a reason that a token may have in blocks is one that it may have outside
+-- a reason that is possible in blocks is also possible outside
 file_out : (next : TokenKind) → is_unsupported File next ≡ true → is_unsupported Block next ≡ true
 file_out (token.Unsupported w) e = refl
 file_out (token.Punctuator punctuator.Ellipsis) e = refl
@@ -165,7 +165,7 @@ reported_apt names tokens from at Syntax t =
     let e = t.yields.0 in
     record { out = λ o l. false≢true (sym e ∙ left_following (kind_or_end tokens at) o); kept = λ k l. cc }
 
--- the same of what the parts answer
+-- the same for the results of the parts
 pub stop_apt : (scope : Scope) (tokens : List Token) (s : Stop) → IsStopApt Block tokens s → IsStopApt scope tokens s
 stop_apt scope tokens (stop.Refused at reason) a = apt_in scope (kind_or_end tokens at) reason a
 stop_apt scope tokens stop.Memory a = tt

@@ -96,12 +96,12 @@ same_first (word.Enum tag) = refl
 pub stuck_at : (names : Names) (ws : List TypeWord) (next : TokenKind) → IsStuck names ws next → IsStuckAt names ws next
 stuck_at names ws next stuck one more e = stuck one more (sym (same_first one) ∙ e)
 
--- words that name nothing continue with a type
+-- words that name nothing can be continued to a type
 pub goes_on_with : (names : Names) (ws : List TypeWord) → named_by ws ≡ [] → MayGoOn names ws
 goes_on_with names ws none =
     (word.Void ∷ [], ap (names_type names) (named_more ws (word.Void ∷ []) ∙ ap (λ (x : List TypeWord). x ++ word.Void ∷ []) none))
 
--- the words name no type, and none that begins with the token fits
+-- the words name no type, and no word that begins with the token fits
 pub words_stop : (names : Names) (limit : ℕ) → 1 ≤ limit
     → (tokens : List Token) (from next : ℕ) (so_far : TypeSoFar) (items : List SpecWord) (s : Stop) → WordsSoFar names tokens from next so_far items
     → names_some so_far ≡ false → NothingFits names so_far (kind_or_end tokens next)

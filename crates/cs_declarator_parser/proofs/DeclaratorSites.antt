@@ -157,7 +157,7 @@ missing_after declares names limit some tokens from at (w ∷ ws) p no_name =
     name_missing (IsNameFor declares names) names (MayLackFor declares) limit n.0 n.1 some (w ∷ ws) p.pointers (kind_or_end tokens at)
     (record { no_star = p.no_star; no_const = λ k. let z = p.no_const k in cc; no_name = no_name })
 
--- no name stands after the pointers
+-- no name follows the pointers
 pub missing_refused : (declares : Declares) (names : Names) (limit : ℕ) → 1 ≤ limit
     → (tokens : List Token) (from at : ℕ) (reason : Reason) → IsNameMissing declares names tokens from at reason
     → IsRefused (DeclaratorsFor declares names) limit tokens from at reason
@@ -237,7 +237,7 @@ bound_stops declares names limit tokens from next list tall has b k s r =
 bounds_more : (list : List (Option RawExpr)) (b : Option RawExpr) → bounds_of (list ++ b ∷ []) ≡ bounds_of list ++ option_map written b ∷ []
 bounds_more list b = map-append (option_map written) list (b ∷ [])
 
--- one bound more was taken
+-- one more bound was taken
 pub next_bound : (declares : Declares) (names : Names) (limit : ℕ) (tokens : List Token) (from next : ℕ) (list more : List (Option RawExpr)) (tall : ℕ)
     (taken : Taken (Option RawExpr)) → BoundsSoFar declares names limit tokens from next list tall
     → kind_or_end tokens next ≡ token.Punctuator punctuator.OpenBracket
@@ -305,7 +305,7 @@ bounds_taken view declares names limit tokens from next list tall taken b only t
       (no_bound declares names limit (kind_or_end tokens next) (has_no_limit declares limit) (is_bracket (kind_or_end tokens next)) refl refl only)));
 }
 
--- the refusal of what stands where a name is awaited
+-- the refusal of what comes where a name is expected
 pub pointed_missing : (declares : Declares) (names : Names) (tokens : List Token) (from at : ℕ) (words : List PointerWord)
     → ArePointers tokens from at words → IsNameAt (IsNameFor declares names) (kind_or_end tokens at) None → (s : Stop) → RefusesAfter at false s
     → PointedAnswers declares names tokens from (Err s)
@@ -385,7 +385,7 @@ pub declarators_low : (declares : Declares) (names : Names) (limit : ℕ) → 1 
     → (DeclaratorsFor declares names).tall (declarators_row declares names).least.tree ≤ limit
 declarators_low declares names limit some = some
 
--- what stands after a declarator is neither a comma nor a semicolon
+-- what follows a declarator is neither a comma nor a semicolon
 pub declarators_wrong : (declares : Declares) (names : Names) (limit inner : ℕ) (tokens : List Token) (from : ℕ) (done : List Declarator)
     (last : Declarator) (next : ℕ) (tall : ℕ)
     → RowSoFar (DeclaratorsFor declares names) (token.Punctuator punctuator.Semicolon) limit tokens from done last next

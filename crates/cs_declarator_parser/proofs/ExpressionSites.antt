@@ -1,4 +1,4 @@
--- Expressions as parts of declarations and statements: the result of each return. For the contracts of `expression` and the like.
+-- Expressions as parts of declarations and statements: the result of each return. For the contracts of `expression` and its callers.
 use Rattle.std.proofs.Common.{◌≡◌, ℕ, ◌+◌, ◌≤◌, inl, inr, false, IsTrue, Option, Some, None, List, [], ◌∷◌, ◌++◌, refl, sym, ap}
 use Rattle.std.proofs.Common.{◌∙◌, subst, arith}
 use Rattle.std.proofs.lemmas.Bool.{false≢true}
@@ -62,7 +62,7 @@ phrase_taken names level limit tokens from phrase taken is t = record {
       t.took));
 }
 
--- the token after it, if nothing else continues with that
+-- the reason for the token after it, if nothing else continues with that token
 pub phrase_apt : (names : Names) (level limit : ℕ) (tokens : List Token) (from : ℕ) (phrase : Phrase) (taken : Unclosed RawExpr) → IsPhraseOf phrase taken
     → IsPhraseTaken names level limit tokens from phrase → IsApt scope.Block (kind_or_end tokens taken.next) taken.otherwise
 phrase_apt names level limit tokens from phrase taken is t =
@@ -105,7 +105,7 @@ closed_stops names level limit m is tokens from s r =
     closed_refused (Expressions names level) (token.Punctuator m) limit (text_law names level) (λ part more. c.shut) front (kind_or_end tokens at) deep x)
     s r
 
--- another token stands after it
+-- another token follows it
 pub closed_missing : (names : Names) (level limit : ℕ) (m : Punctuator) → IsTrue (closes m)
     → (tokens : List Token) (from : ℕ) (taken : Unclosed RawExpr) → IsUnclosedTaken (Expressions names level) written limit tokens from taken
     → (kind_or_end tokens taken.next ≡ token.Punctuator m → ⊥)
@@ -119,7 +119,7 @@ closed_missing names level limit m is tokens from taken t other =
           (kind_or_end tokens taken.next) (is_deep taken.otherwise) t.took other;
     }
 
--- what closes it stands after it
+-- the token that closes it follows
 pub closed_taken : (names : Names) (level limit : ℕ) (m : Punctuator) → IsTrue (closes m)
     → (tokens : List Token) (from : ℕ) (taken : Unclosed RawExpr) (whole : Taken RawExpr)
     → IsUnclosedTaken (Expressions names level) written limit tokens from taken → kind_or_end tokens taken.next ≡ token.Punctuator m
@@ -147,7 +147,7 @@ none_some : (names : Names) (level : ℕ) (MayLack : Type 0) (close : TokenKind)
 none_some names level MayLack close None after following is other same = absurd (other after (sym same))
 none_some names level MayLack close (Some e) after following is other same = (e, refl, is, sym same)
 
--- an expression that may lack, where what closes it doesn't stand there
+-- an expression that may be absent, if the next token doesn't close it
 pub some_tail : (names : Names) (level : ℕ) (MayLack : Type 0) (close : TokenKind) (limit : ℕ)
     → Tail (ClosedSome names level MayLack close) (ClosedExpressions names level close) limit limit [] Some (IsUnclosed close)
 some_tail names level MayLack close limit = record {
@@ -166,7 +166,7 @@ full_some : (names : Names) (level : ℕ) (close : TokenKind) (whole : Option Wr
 full_some names level close None after following is same = absurd is
 full_some names level close (Some e) after following is same = (e, refl, is, sym same)
 
--- an expression that may not lack
+-- an expression that may not be absent
 full_tail : (names : Names) (close : TokenKind) (limit : ℕ)
     → Tail (ClosedSome names 2 ⊥ close) (ClosedExpressions names 2 close) limit limit [] Some (λ rest. Unit {0})
 full_tail names close limit = record {
@@ -230,7 +230,7 @@ none_taken names level limit m is tokens from whole k tree tall next = record {
       (some_none names level (Unit {0}) (token.Punctuator m) limit (punctuator_closes names level m is) tt);
 }
 
--- it is there
+-- it is present
 pub some_taken : (names : Names) (level : ℕ) (MayLack : Type 0) (limit : ℕ) (m : Punctuator) → IsTrue (closes m)
     → (tokens : List Token) (from : ℕ) (taken : Taken RawExpr) (whole : Taken (Option RawExpr))
     → IsExactly (ClosedExpressions names level (token.Punctuator m)) written limit tokens from taken → whole.tree ≡ Some taken.tree
@@ -259,7 +259,7 @@ abbrev test_tail : (names : Names) (limit : ℕ) → 1 ≤ limit
 test_tail names limit some = after_tail (token.Punctuator punctuator.OpenParenthesis) (ClosedExpressions names 0 (token.Punctuator punctuator.CloseParenthesis))
     limit (closed_least (Expressions names 0) (token.Punctuator punctuator.CloseParenthesis) (expression_least names 0 (omega arith))) some
 
--- what stands between the parentheses was refused
+-- what is between the parentheses was refused
 pub test_stops : (names : Names) (limit : ℕ) → 1 ≤ limit
     → (tokens : List Token) (from : ℕ) → kind_or_end tokens from ≡ token.Punctuator punctuator.OpenParenthesis
     → (s : Stop) → Stops (ClosedExpressions names 0 (token.Punctuator punctuator.CloseParenthesis)) limit tokens (from + 1) s
@@ -288,7 +288,7 @@ test_taken names limit tokens from k taken t = record {
   };
 }
 
--- a bound of a member, which may not lack
+-- a bound of a member, which may not be absent
 pub member_bound_stops : (names : Names) (limit : ℕ) (tokens : List Token) (from : ℕ) (s : Stop)
     → Stops (ClosedExpressions names 2 (token.Punctuator punctuator.CloseBracket)) limit tokens from s
     → Stops (ClosedSome names 2 ⊥ (token.Punctuator punctuator.CloseBracket)) limit tokens from s

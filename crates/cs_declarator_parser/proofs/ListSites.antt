@@ -62,7 +62,7 @@ list_goes_on true false e = (refl, refl)
 list_goes_on true true e = absurd (false≢true e)
 list_goes_on false second e = absurd (false≢true e)
 
--- another phrase is awaited after a comma
+-- another phrase is expected after a comma
 pub next_stands : (first second : TokenKind) → goes_on first second ≡ true → (first ≡ comma_token) × (second ≡ close_brace → ⊥)
 next_stands first second e =
     let b = list_goes_on (is_comma first) (is_closing_brace second) e in
@@ -73,7 +73,7 @@ list_ends true true e f = refl
 list_ends true false e f = absurd (false≢true (sym e))
 list_ends false second e f = absurd (false≢true f)
 
--- after a comma that ends a list a brace stands
+-- the token after a comma that ends a list is a brace
 pub brace_after : (first second : TokenKind) → goes_on first second ≡ false → first ≡ comma_token → second ≡ close_brace
 brace_after first second e k = brace_stands second (list_ends (is_comma first) (is_closing_brace second) e (ap is_comma k))
 
@@ -100,7 +100,7 @@ unclosed_apt scope tokens next reason true stands ends other a =
     absurd (other (brace_after (kind_or_end tokens next) (kind_or_end tokens (next + 1)) ends (stands refl)))
 unclosed_apt scope tokens next reason false stands ends other a = a
 
--- what was taken of a class, in other words
+-- what was taken of a class, written differently
 pub unclosed_as : {A : Type 0} (C : Class) (view : A → C.Tree) (limit : ℕ) (tokens : List Token) (from : ℕ) (tree : C.Tree) (tall next : ℕ)
     (deep : Bool) (taken : Unclosed A) → tall ≡ C.tall tree → Spells tokens from next (C.spell tree) → Took C limit tree (kind_or_end tokens next) deep
     → view taken.tree ≡ tree → taken.height ≡ tall → taken.next ≡ next → is_deep taken.otherwise ≡ deep
@@ -116,7 +116,7 @@ unclosed_as C view limit tokens from tree tall next deep taken h sp t is tallnes
       (subst (λ (x : C.Tree). Took C limit x (kind_or_end tokens next) deep) (sym is) t));
 }
 
--- no name of a constant stands there
+-- the next token can't be the name of a constant
 pub constant_stops : (names : Names) (limit : ℕ) (tokens : List Token) (from : ℕ) (scope : Scope) (s : Stop) → from ≤ length tokens
     → IsNameAt (IsFree names) (kind_or_end tokens from) None → s ≡ stop.Refused from (plain_reason scope (kind_or_end tokens from))
     → Stops (Constants names) limit tokens from s
@@ -188,7 +188,7 @@ value_taken names limit inner less some tokens from name k free equal value v ta
     (constant_value_took names inner some (written value.tree) (kind_or_end tokens value.next) (is_deep value.otherwise) v.took))
     is tall next (ap is_deep why)
 
--- no value begins with the token
+-- no initializer begins with the token
 pub no_value_stops : (names : Names) (limit : ℕ) (tokens : List Token) (from : ℕ) (reason : Reason) → from ≤ length tokens → is_deep reason ≡ false
     → begins_expression names (kind_or_end tokens from) ≡ false → (kind_or_end tokens from ≡ token.Punctuator punctuator.OpenBrace → ⊥)
     → IsRefused (Values names) limit tokens from from reason
@@ -254,7 +254,7 @@ items_taken names limit inner less some tokens from next k row tall r taken is t
     (exact_took (Trailing (Values names) close_brace) inner row r.exactly (kind_or_end tokens next)))
     is tallness number why
 
--- the items of a list as a list
+-- the items of a list, as a list
 pub items_listed : (list : List RawInitial) → initials_list list ≡ items_of (map initial list)
 items_listed [] = refl
 items_listed (i ∷ is) = ap (MoreItems (initial i)) (items_listed is)

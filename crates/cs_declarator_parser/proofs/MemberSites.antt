@@ -47,7 +47,7 @@ use Rattle.cs_declarator_parser.specs.SpecWords.{begins_words, group}
 use Rattle.cs_expr_parser.proofs.Standing.{spells_one, spells_none, spells_more, spells_as}
 use Rattle.cs_declarator_parser.proofs.PartStops.{IsPlainStop, stops_in, stops_plain, stops_full, front_of, first_front, near_start, pair_first_stops}
 
--- a typedef name names a type where it is one of these, and alone
+-- a typedef name names a type only if it is one of the names, and without other words
 typedef_among : (names : Names) (n : List ℕ) (rest : List TypeWord) → names_type names (word.Typedef n ∷ rest) ≡ true → is_among names n ≡ true
 typedef_among names n [] e = e
 typedef_among names n (w ∷ ws) e = absurd (false≢true e)
@@ -69,7 +69,7 @@ first_of_words names (Plain (word.Enum tag)) others e = refl
 first_of_words names (StructBody tag members) others e = refl
 first_of_words names (EnumBody tag constants comma) others e = refl
 
--- what stands before declarators begins with a token that may begin it
+-- specifiers begin with a token that may begin them
 pub specs_begin : (names : Names) (s : Specs) (x : Kinds) (next : TokenKind) (more : Kinds) → AreSpecs names s → specs_text s x ≡ next ∷ more
     → begins_words File names next ≡ true
 specs_begin names NoSpec x next more is same = absurd (false≢true is.0)
@@ -112,7 +112,7 @@ starts_no_brace tokens more (with_name n m e) same = let z = sym e ∙ same in c
 has_limit : (names : Names) (limit inner : ℕ) → limit ≡ 1 + inner → 1 ≤ inner → HasLimit (member_pair names) limit inner
 has_limit names limit inner less some = (less, some, some)
 
--- a brace was refused after the words before the declarators
+-- a brace was refused after the specifiers
 brace_refused : (names : Names) (limit inner : ℕ) → limit ≡ 1 + inner → 1 ≤ inner
     → (tokens : List Token) (from at : ℕ) (reason : Reason) → IsBraceRefused (FileSpecs names) inner tokens from at reason
     → IsRefused (MemberGroups names) limit tokens from at reason
@@ -127,7 +127,7 @@ brace_refused names limit inner less some tokens from at reason b = record {
       starts_no_brace (with_commas declarator_text d (semicolon ∷ after)) more (member_starts names d (semicolon ∷ after) are.0 are.1) same));
 }
 
--- the words before the declarators were refused
+-- the specifiers were refused
 pub member_specs_stop : (names : Names) (limit inner : ℕ) → limit ≡ 1 + inner → 1 ≤ inner
     → (tokens : List Token) (from : ℕ) → from ≤ length tokens → (s : Stop) → StopsOrBrace (FileSpecs names) inner tokens from s
     → Stops (MemberGroups names) limit tokens from s
@@ -139,7 +139,7 @@ member_specs_stop names limit inner less some tokens from within (stop.Refused a
       | inr b ↦ brace_refused names limit inner less some tokens from at reason b
     ]
 
--- the declarators after the words were refused
+-- the declarators after the specifiers were refused
 pub member_list_stops : (names : Names) (limit inner : ℕ) → limit ≡ 1 + inner → 1 ≤ inner
     → (tokens : List Token) (from : ℕ) (words : Taken RawSpecs) → IsTaken (FileSpecs names) specs inner tokens from false words
     → (s : Stop) → Stops (Separated (MemberDeclarators names) semicolon) inner tokens words.next s → Stops (MemberGroups names) limit tokens from s
@@ -155,7 +155,7 @@ first_any : (front : Kinds) → (front ≡ [] → ⊥) → (a b : TokenKind) →
 first_any [] some a b = absurd (some refl)
 first_any (t ∷ ts) some a b = refl
 
--- the first token of declarators, whatever stands after them
+-- the first token of declarators, whatever follows them
 list_first : (names : Names) (tokens : List Token) (mid next : ℕ) (d : List Declarator) → (Separated (MemberDeclarators names) semicolon).Is d
     → Spells tokens mid next ((Separated (MemberDeclarators names) semicolon).spell d)
     → (following : TokenKind) → first_or ((Separated (MemberDeclarators names) semicolon).spell d []) following ≡ kind_or_end tokens mid
@@ -195,7 +195,7 @@ member_taken names limit inner less some tokens from words w view list l taken i
           (λ other after. tt) semicolon);
     }
 
--- members were taken so far
+-- the members taken so far
 pub record MembersSoFar (names : Names) (limit : ℕ) (tokens : List Token) (from next : ℕ) (items : List RawMember) (tall : ℕ) : Type 0 where
   pub spelled : Spells tokens from next (members_text (members_list items))
   pub so_far : GrownSoFar (member_growing names) limit (members_list items) (Near (kind_or_end tokens next))
@@ -255,7 +255,7 @@ member_more names limit tokens from next items more tall m taken t is =
           e ∙ ap members_height (sym all);
     }
 
--- a member was refused, where no brace closes the members
+-- a member was refused, and the next token doesn't close the members
 pub member_stops : (names : Names) (limit : ℕ) (tokens : List Token) (from next : ℕ) (items : List RawMember) (tall : ℕ)
     → MembersSoFar names limit tokens from next items tall → (kind_or_end tokens next ≡ close_brace → ⊥)
     → (s : Stop) → Stops (MemberGroups names) limit tokens next s → Stops (MemberRows names) limit tokens from s
@@ -269,7 +269,7 @@ member_stops names limit tokens from next items tall m other s r =
     (λ after following shut near same.
     near_other close_brace (kind_or_end tokens next) (front ++ following) after other (near_start tokens next at front here following near) same) x) s r
 
--- the closing brace stands after the members
+-- the closing brace follows the members
 pub members_taken : (names : Names) (limit : ℕ) (tokens : List Token) (from next : ℕ) (items : List RawMember) (tall : ℕ)
     → MembersSoFar names limit tokens from next items tall → kind_or_end tokens next ≡ close_brace
     → {A : Type 0} (view : A → Members) (taken : Taken A) → view taken.tree ≡ members_list items → taken.height ≡ tall → taken.next ≡ next + 1

@@ -1,4 +1,4 @@
--- Declared objects: the result of each return. For the contracts of `with_value`, `with_others` and the like.
+-- Declared objects: the result of each return. For the contracts of `with_value`, `with_others` and their callers.
 use Rattle.std.proofs.Common.{◌≡◌, ℕ, ◌+◌, ◌≤◌, true, false, Some, None, List, [], ◌∷◌, ◌++◌, sym, ap, ◌∙◌, subst, arith}
 use Rattle.cs_ast.specs.declared.token.Token.{Token}
 use Rattle.cs_ast.specs.declared.token.TokenKind.{TokenKind}
@@ -38,7 +38,7 @@ object_stops names limit tokens from s r =
     stops_pass (Objects names) (DeclaratorsFor declaring.Names names) limit limit tokens from
     (λ front at deep here x. declared_refused names limit front (kind_or_end tokens at) deep x) s r
 
--- no value stands after the declarator
+-- no value follows the declarator
 pub alone_taken : (names : Names) (limit inner : ℕ) → limit ≡ 1 + inner
     → (tokens : List Token) (from : ℕ) (d : Taken RawDeclarator) → IsDeclaratorTaken declaring.Names names limit tokens from d
     → (kind_or_end tokens d.next ≡ equal_token → ⊥) → (scope : Scope) (taken : Unclosed RawInit) → IsAlone d.tree taken.tree
@@ -50,7 +50,7 @@ alone_taken names limit inner less tokens from d given other scope taken is tall
     (declared_alone names limit (declarator d.tree) (kind_or_end tokens d.next) false t.took other) is tall next
     (ap is_deep why ∙ plain_flat scope (kind_or_end tokens d.next))
 
--- an `=` stands after it, and the limit doesn't allow a value
+-- an `=` follows it, and the limit doesn't allow a value
 pub alone_full : (names : Names) (limit inner : ℕ) → limit ≡ 1 + inner
     → (tokens : List Token) (from : ℕ) (d : Taken RawDeclarator) → IsDeclaratorTaken declaring.Names names limit tokens from d
     → kind_or_end tokens d.next ≡ equal_token → limit ≤ d.height → (taken : Unclosed RawInit) → IsAlone d.tree taken.tree

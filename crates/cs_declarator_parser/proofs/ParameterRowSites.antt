@@ -43,11 +43,11 @@ use Rattle.cs_expr_parser.proofs.Stopping.{refused_number}
 use Rattle.cs_declarator_parser.proofs.PartStops.{stops_pass, near_start}
 use Rattle.cs_declarator_parser.proofs.RowSites.{RowSoFar, row_first, row_next, row_first_stops, row_next_stops, row_wrong}
 
--- parameters with commas between them, `void` alone among them
+-- parameters with commas between them; a list of only `void` is allowed too
 abbrev pub AnyRows : Names → Class
 AnyRows names = Separated (ParameterClass names) close_parenthesis
 
--- the first tokens of some and one more lie within those, or are all
+-- if some tokens and one more begin with the front, it is a beginning of these tokens, or all of them
 front_within : (xs : Kinds) (last : TokenKind) (front more : Kinds) → xs ++ last ∷ [] ≡ front ++ more
     → (more ≡ []) ⊎ ((others : Kinds) × (xs ≡ front ++ others))
 front_within xs last [] more same = inr (xs, refl)
@@ -62,7 +62,7 @@ two_differ p q ps e = cc
 one_text : (p : Parameter) → with_commas parameter_text (p ∷ []) (close_parenthesis ∷ []) ≡ parameter_text p [] ++ close_parenthesis ∷ []
 one_text p = splits (ParameterClass []) (parameters_class_law []) p (close_parenthesis ∷ [])
 
--- where one parameter begins so, two do
+-- the tokens that begin one parameter also begin two
 two_text : (p : Parameter) (front others : Kinds) → parameter_text p [] ≡ front ++ others
     → with_commas parameter_text (p ∷ int_parameter ∷ []) (close_parenthesis ∷ [])
     ≡ front ++ (others ++ comma_token ∷ parameter_text int_parameter (close_parenthesis ∷ []))
@@ -114,7 +114,7 @@ row_further names limit some front next deep r (p ∷ []) more is same =
       }
     ]
 
--- where parameters are refused, `void` alone among them, they are without it
+-- where parameters are refused in such a list, they are refused in one that isn't only `void`
 any_refused : (names : Names) (limit : ℕ) → 2 ≤ limit → (front : Kinds) (next : TokenKind) (deep : Bool)
     → Refused (AnyRows names) limit front next deep → Refused (ParameterRows names) limit front next deep
 any_refused names limit some front next deep r =
@@ -179,7 +179,7 @@ pub next_stops : (names : Names) (limit : ℕ) → 2 ≤ limit
 next_stops names limit some tokens from done last next tall f k s r =
     rows_stop names limit some tokens from s (next_any names limit some tokens from done last next tall f k s r)
 
--- neither a comma nor the closing parenthesis stands after a parameter
+-- neither a comma nor the closing parenthesis follows a parameter
 pub unended_stops : (names : Names) (limit : ℕ) → 2 ≤ limit
     → (tokens : List Token) (from : ℕ) (done : List Parameter) (last : Parameter) (next tall : ℕ)
     → ParametersSoFar names limit tokens from done last next tall → (kind_or_end tokens next ≡ comma_token → ⊥)
@@ -200,7 +200,7 @@ void_stands tokens from rest same =
     let e : token.Keyword keyword.Void ∷ kinds (drop (from + 1) tokens) ≡ token.Keyword keyword.Void ∷ close_parenthesis ∷ rest = sym s.1 ∙ same in
     (k, kinds_first (drop (from + 1) tokens) close_parenthesis rest cc)
 
--- the parameters were taken, and aren't `void` alone
+-- the parameters were taken, and aren't only `void`
 pub rows_taken : {A : Type 0} (view : A → List Parameter) (names : Names) (limit : ℕ) (tokens : List Token) (from : ℕ) (taken : Taken A)
     → (IsVoidAlone tokens from → ⊥) → IsExactly (AnyRows names) view limit tokens from taken
     → IsExactly (ParameterRows names) view limit tokens from taken
@@ -225,7 +225,7 @@ first_near : (next kind : TokenKind) (following more : Kinds) → Near next foll
 first_near next kind following more near same =
     elim near [ inl e ↦ let z = sym e ∙ same in absurd cc | inr m ↦ let z : next ∷ m.0 ≡ kind ∷ more = sym m.1 ∙ same in cc ]
 
--- where `void` itself would be refused, there would be the limit doesn't allow a parameter
+-- `void` is refused as the first token only if the limit doesn't allow a parameter
 void_refused : (names : Names) (limit : ℕ) → 2 ≤ limit → (next : TokenKind) (deep : Bool) → next ≡ token.Keyword keyword.Void
     → Refused (ParameterRows names) limit [] next deep → ⊥
 void_refused names limit some next deep k r =
@@ -310,7 +310,7 @@ list_taken view names limit inner less tokens from list t whole is tall number =
   exactly = subst (λ (x : Parameters). Exactly (ParameterLists names) limit x) (sym is) (lists_exactly names limit inner less (view list.tree) t.exactly);
 }
 
--- the closing parenthesis stands there, or `void` alone before it
+-- the next token is the closing parenthesis, or only `void` comes before it
 pub none_taken : (names : Names) (limit : ℕ) → 1 ≤ limit
     → (tokens : List Token) (from : ℕ) (whole : Taken RawParameters) → kind_or_end tokens from ≡ close_parenthesis
     → parameters whole.tree ≡ NoParameter → whole.height ≡ 1 → whole.next ≡ from + 1

@@ -54,7 +54,7 @@ name_spelled IsName tokens at next None within i is = subst (λ (n : ℕ). Spell
 name_spelled IsName tokens at next (Some n) within i is =
     subst (λ (m : ℕ). Spells tokens at m (λ rest. token.Name n.name ∷ rest)) (sym is) (spells_one tokens at (token.Name n.name) i.0 (λ x. cc))
 
--- the refusal of a parenthesis where a name may stand
+-- the refusal of a parenthesis where a name is allowed
 pub name_refused : (names : Names) (tokens : List Token) (at : ℕ) → kind_or_end tokens at ≡ token.Punctuator punctuator.OpenParenthesis
     → (s : Stop) → RefusesAfter at false s → ParameterNameAnswer names tokens at (Err s)
 name_refused names tokens at k stop.Memory is = absurd is
@@ -72,7 +72,7 @@ const_fits names s is = (
   joined_bodies names s one_const is.1 (tt, tt),
 )
 
--- after the words that were taken no `const` stands, which would be one of them
+-- no `const` follows specifiers that were taken, since it would be one of them
 pub specs_no_const : (names : Names) (limit : ℕ) (s : Specs) (next : TokenKind) → Took (FileSpecs names) limit s next false
     → next ≡ token.Keyword keyword.Const → ⊥
 specs_no_const names limit s next t k =
@@ -89,7 +89,7 @@ pub record TailBegun (names : Names) (tokens : List Token) (from mid next : ℕ)
   pub named : IsNameAt (IsFree names) (kind_or_end tokens mid) name
   pub spelled : Spells tokens mid next (name_text (name_in name))
 
--- what may stand after them
+-- what may follow them
 abbrev FitAfter : Names → Option (List ℕ) → Kinds → Type 0
 FitAfter names None following = HasNoName names following
 FitAfter names (Some n) following = Unit {0}
@@ -165,14 +165,14 @@ tail_stands names limit tokens from mid next end words name b bs sp t = record {
       (front_of (Brackets names (Unit {0})) (brackets_law names (Unit {0})) tokens next end bs sp) following near)) t;
 }
 
--- words of a type were taken, after which what is left of a parameter begins
+-- specifiers were taken, after which the rest of a parameter begins
 abbrev pub SpecsTaken : Names → ℕ → List Token → ℕ → Taken RawSpecs → Type 0
 SpecsTaken names limit tokens from words = IsTaken (FileSpecs names) specs limit tokens from false words
 
 has_limit : (names : Names) (limit inner : ℕ) → limit ≡ 1 + inner → 1 ≤ inner → HasLimit (parameter_pair names) limit inner
 has_limit names limit inner less some = (less, some, omega arith)
 
--- what stands after the words was refused
+-- what follows the specifiers was refused
 pub after_specs_stops : (names : Names) (limit inner : ℕ) → limit ≡ 1 + inner → 1 ≤ inner
     → (tokens : List Token) (from : ℕ) (words : Taken RawSpecs) → SpecsTaken names inner tokens from words
     → (s : Stop) → Stops (ParameterTails names) inner tokens words.next s → Stops (ParameterClass names) limit tokens from s
@@ -220,7 +220,7 @@ parameter_taken names limit tokens from next whole p taken is tall number = reco
       (subst (λ (x : Parameter). Took (ParameterClass names) limit x (kind_or_end tokens next) false) (sym is) p.took);
 }
 
--- no `const` stands after the words and the pointers
+-- no `const` follows the specifiers and the pointers
 pub pointers_no_const : (names : Names) (limit : ℕ) (tokens : List Token) (from mid : ℕ) (taken : Taken RawSpecs) (words : List PointerWord)
     → SpecsTaken names limit tokens from taken → ArePointers tokens taken.next mid words → kind_or_end tokens mid ≡ token.Keyword keyword.Const → ⊥
 pointers_no_const names limit tokens from mid taken words t p k =
@@ -229,7 +229,7 @@ pointers_no_const names limit tokens from mid taken words t p k =
     let e : taken.next ≡ mid = omega (arith, n) in
     specs_no_const names limit (specs taken.tree) (kind_or_end tokens taken.next) t.took (ap (kind_or_end tokens) e ∙ k)
 
--- a parenthesis is refused where a name may stand
+-- a parenthesis is refused where a name is allowed
 parenthesis_after : (names : Names) (limit inner : ℕ) → limit ≡ 1 + inner → 1 ≤ inner
     → (tokens : List Token) (from mid : ℕ) (taken : Taken RawSpecs) → SpecsTaken names inner tokens from taken
     → (words : List PointerWord) → ArePointers tokens taken.next mid words → kind_or_end tokens mid ≡ token.Punctuator punctuator.OpenParenthesis
@@ -264,7 +264,7 @@ name_stops names limit inner less some tokens from mid taken t words p (stop.Ref
           (sym r.1) w.took;
     }))
 
--- nothing of a parameter after its first words begins with a brace
+-- nothing of a parameter after its specifiers begins with a brace
 no_tail_brace : (ps : List PointerWord) (o : Option (List ℕ)) (bs : List (Option Written)) (after more : Kinds)
     → pointers_text ps (name_text o (brackets_text bs after)) ≡ token.Punctuator punctuator.OpenBrace ∷ more
     → (tail_of ps o bs ≡ tail_of [] None []) × (after ≡ token.Punctuator punctuator.OpenBrace ∷ more)
@@ -315,7 +315,7 @@ brace_further names s b = record {
   spelled = b.spelled;
 }
 
--- words before a brace are a whole parameter
+-- specifiers before a brace are a whole parameter
 brace_took : (names : Names) (limit inner : ℕ) → limit ≡ 1 + inner → (s : Specs) (deep : Bool) → Took (FileSpecs names) inner s brace deep
     → Took (ParameterClass names) limit (parameter_of s (tail_of [] None [])) brace deep
 brace_took names limit inner less s deep t = record {
@@ -337,7 +337,7 @@ brace_after names limit inner less tokens from at reason b = record {
       (brace_took names limit inner less b.phrase (is_deep reason) b.took);
 }
 
--- the words were refused
+-- the specifiers were refused
 pub specs_stop : (names : Names) (limit inner : ℕ) → limit ≡ 1 + inner → 1 ≤ inner → (tokens : List Token) (from : ℕ) → from ≤ length tokens
     → (s : Stop) → StopsOrBrace (FileSpecs names) inner tokens from s → ParameterStops names limit tokens from s
 specs_stop names limit inner less some tokens from within stop.Memory r = tt

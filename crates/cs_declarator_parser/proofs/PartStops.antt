@@ -25,11 +25,11 @@ either_flat : (b : Bool) → is_deep (if b then Unsupported else Syntax) ≡ fal
 either_flat true = refl
 either_flat false = refl
 
--- the reason is that no phrase of any height goes on
+-- the reason is that no phrase of any height continues
 pub plain_flat : (scope : Scope) (next : TokenKind) → is_deep (plain_reason scope next) ≡ false
 plain_flat scope next = either_flat (is_unsupported scope next)
 
--- what a refusal inside a part says of the whole
+-- what a refusal inside a part implies for the whole
 abbrev pub Lifts : Class → Class → ℕ → ℕ → List Token → ℕ → Kinds → Type 0
 Lifts C D limit inner tokens mid before =
     (front : Kinds) (at : ℕ) (deep : Bool) → Spells tokens mid at (λ rest. front ++ rest) → Refused D inner front (kind_or_end tokens at) deep
@@ -92,24 +92,24 @@ pub front_of : (C : Class) → Lawful C → (tokens : List Token) (from next : �
     → Spells tokens from next (λ rest. C.spell tree [] ++ rest)
 front_of C law tokens from next tree sp = spells_as tokens from next (C.spell tree) (λ rest. C.spell tree [] ++ rest) sp (λ rest. splits C law tree rest)
 
--- the first of some tokens, or the next one where there is none
+-- the first of some tokens, or the next one if there are none
 pub first_front : (tokens : List Token) (from at : ℕ) (front : Kinds) → Spells tokens from at (λ rest. front ++ rest)
     → first_or front (kind_or_end tokens at) ≡ kind_or_end tokens from
 first_front tokens from at [] sp = refused_here tokens from at [] sp refl
 first_front tokens from at (f ∷ fs) sp = sym (kinds_first (drop from tokens) f (fs ++ kinds (drop at tokens)) sp.spelled)
 
--- tokens that were refused, whatever stands after the next one, are near to the first
+-- tokens that were refused, followed by any tokens after the next one, continue with the first token
 pub near_start : (tokens : List Token) (from at : ℕ) (front : Kinds) → Spells tokens from at (λ rest. front ++ rest)
     → (following : Kinds) → Near (kind_or_end tokens at) following → Near (kind_or_end tokens from) (front ++ following)
 near_start tokens from at front sp following near =
     near_first front (kind_or_end tokens at) (kind_or_end tokens from) (first_front tokens from at front sp) following near
 
--- a phrase with its tokens
+-- a phrase that was taken, with its tokens
 pub record Standing (C : Class) (limit : ℕ) (tokens : List Token) (from next : ℕ) (deep : Bool) (tree : C.Tree) : Type 0 where
   pub spelled : Spells tokens from next (C.spell tree)
   pub took : Took C limit tree (kind_or_end tokens next) deep
 
--- the same of one that is determined by its tokens
+-- the same for one that is determined by its tokens
 pub record StandingExactly (C : Class) (limit : ℕ) (tokens : List Token) (from next : ℕ) (tree : C.Tree) : Type 0 where
   pub spelled : Spells tokens from next (C.spell tree)
   pub exactly : Exactly C limit tree
@@ -151,7 +151,7 @@ pair_stands {S} {C} {D} {plus} {before} {build} pair limit inner has tokens from
   took = pair_took pair limit inner has c e.exactly d (kind_or_end tokens next) deep t.took;
 }
 
--- what may stand after the first tokens of a part
+-- the tokens of a part fit, whichever of them is refused
 abbrev pub FitsAll : (Kinds → Type 0) → List Token → ℕ → Type 0
 FitsAll Fit tokens mid = (front : Kinds) (at : ℕ) → Spells tokens mid at (λ rest. front ++ rest)
     → (following : Kinds) → Near (kind_or_end tokens at) following → Fit (front ++ following)
@@ -179,27 +179,27 @@ single_stands {S} {D} {plus} {before} {build} {Fit} single limit inner has token
   took = single_took single limit inner has part (kind_or_end tokens next) deep fits t.took;
 }
 
--- the same where anything may stand after
+-- the same where any tokens fit
 pub no_fits : (tokens : List Token) (mid : ℕ) → FitsAll (λ rest. Unit {0}) tokens mid
 no_fits tokens mid = λ front at here following near. tt
 
--- what is determined by its tokens stands there
+-- a phrase that is determined by its tokens was taken
 pub exactly_stands : (C : Class) (limit : ℕ) (tokens : List Token) (from next : ℕ) (tree : C.Tree) → StandingExactly C limit tokens from next tree
     → Standing C limit tokens from next false tree
 exactly_stands C limit tokens from next tree e = record { spelled = e.spelled; took = exact_took C limit tree e.exactly (kind_or_end tokens next) }
 
--- what closes phrases of a class may stand after each of them
+-- the token that closes phrases of a class may follow each of them
 abbrev pub Closing : Class → TokenKind → Type 0
 Closing D close = (part : D.Tree) (more : Kinds) → D.Shut part (close ∷ more)
 
--- before what closes it, a phrase was refused
+-- a phrase was refused before the token that closes it
 pub closed_stops : (D : Class) (close : TokenKind) → Lawful D → Closing D close
     → (limit : ℕ) (tokens : List Token) (from : ℕ) (s : Stop) → Stops D limit tokens from s → Stops (ClosedBy D close) limit tokens from s
 closed_stops D close law shut limit tokens from s r =
     stops_pass (ClosedBy D close) D limit limit tokens from (λ front at deep here x.
     closed_refused D close limit law shut front (kind_or_end tokens at) deep x) s r
 
--- what closes it doesn't stand after a phrase
+-- the token that closes it doesn't follow a phrase
 pub closed_missing : (D : Class) (close : TokenKind) → Lawful D → Closing D close
     → (limit : ℕ) (tokens : List Token) (from next : ℕ) (scope : Scope) (tree : D.Tree) (s : Stop) → Standing D limit tokens from next false tree
     → (kind_or_end tokens next ≡ close → ⊥) → IsPlainStop scope tokens next s → Stops (ClosedBy D close) limit tokens from s
@@ -207,7 +207,7 @@ closed_missing D close law shut limit tokens from next scope tree s t other is =
     stops_plain (ClosedBy D close) limit tokens from next scope (D.spell tree []) s (front_of D law tokens from next tree t.spelled) is
     (closed_wrong D close limit law shut tree (kind_or_end tokens next) false t.took other)
 
--- it stands after it
+-- it follows the phrase
 pub closed_stands : (D : Class) (close : TokenKind) → Closing D close → (close ≡ token.Attribute → ⊥)
     → (limit : ℕ) (tokens : List Token) (from next : ℕ) (tree : D.Tree) → Standing D limit tokens from next false tree
     → kind_or_end tokens next ≡ close → StandingExactly (ClosedBy D close) limit tokens from (next + 1) tree

@@ -27,26 +27,26 @@ use Rattle.cs_declarator_parser.specs.DeclarationPlaces.{past, AreInRow, AreSide
 use Rattle.cs_expr_parser.proofs.Standing.{spells_as, spells_one, spells_more}
 use Rattle.cs_expr_parser.proofs.Stopping.{refused_number}
 
--- a text is the same whatever stands after it
+-- a text is the same whatever follows it
 abbrev pub IsFramed : (Kinds → Kinds) → Type 0
 IsFramed spell = (x y : Kinds) → spell x ++ y ≡ spell (x ++ y)
 
 pub one_after : (tokens : List Token) (at : ℕ) → drop 1 (drop at tokens) ≡ drop (at + 1) tokens
 one_after tokens at = drop-drop 1 at tokens
 
--- after a text that was read stand the tokens from its end on
+-- a text that was read is followed by the tokens from its end
 pub past_text : (spell : Kinds → Kinds) → IsFramed spell → (tokens : List Token) (from next : ℕ) → Spells tokens from next spell
     → past spell (drop from tokens) ≡ drop next tokens
 past_text spell law tokens from next sp =
     let n = refused_number tokens from next (spell []) (spells_as tokens from next spell (λ rest. spell [] ++ rest) sp (λ rest. sym (law [] rest))) in
     drop-drop (length (spell [])) from tokens ∙ ap (λ (x : ℕ). drop x tokens) (sym n)
 
--- what stands after a text that was read
+-- what follows a text that was read
 pub after_text : (Has : List Token → Type 0) (spell : Kinds → Kinds) → IsFramed spell
     → (tokens : List Token) (from next : ℕ) → Spells tokens from next spell → Has (drop next tokens) → Has (past spell (drop from tokens))
 after_text Has spell law tokens from next sp has = subst Has (sym (past_text spell law tokens from next sp)) has
 
--- the same after one token more
+-- the same after one more token
 pub after_text_and_one : (Has : List Token → Type 0) (spell : Kinds → Kinds) → IsFramed spell
     → (tokens : List Token) (from next : ℕ) → Spells tokens from next spell → Has (drop (next + 1) tokens)
     → Has (drop 1 (past spell (drop from tokens)))
@@ -68,7 +68,7 @@ pub row_longer : {A : Type 0} (spell : A → Kinds → Kinds) (done : List A) (l
 row_longer spell [] last tokens = refl
 row_longer spell (d ∷ ds) last tokens = row_longer spell ds last (drop 1 (past (spell d) tokens))
 
--- the tokens after parts that stand side by side
+-- the tokens after consecutive parts
 abbrev pub past_side : {A : Type 0} → (A → Kinds → Kinds) → List A → List Token → List Token
 past_side spell [] tokens = tokens
 past_side spell (a ∷ all) tokens = past_side spell all (past (spell a) tokens)
@@ -83,7 +83,7 @@ pub side_longer : {A : Type 0} (spell : A → Kinds → Kinds) (done : List A) (
 side_longer spell [] last tokens = refl
 side_longer spell (d ∷ ds) last tokens = side_longer spell ds last (past (spell d) tokens)
 
--- parts with a token after each have their places, and so has a last one, which ends before a token
+-- parts with a token after each are placed, and so is a last one, which ends before a token
 pub record RowPlaced {A : Type 0} (Has : A → List Token → Type 0) (spell : A → Kinds
     → Kinds) (tokens : List Token) (from : ℕ) (done : List A) (last : A) (next : ℕ) : Type 0 where
   pub at : ℕ
@@ -96,7 +96,7 @@ pub row_begun : {A : Type 0} (Has : A → List Token → Type 0) (spell : A → 
     → Spells tokens from next (spell first) → Has first (drop from tokens) → RowPlaced Has spell tokens from [] first next
 row_begun Has spell tokens from first next sp has = record { at = from; row = tt; ends = refl; last_placed = has; last_spelled = sp }
 
--- the whole row
+-- the whole list
 pub row_placed : {A : Type 0} (Has : A → List Token → Type 0) (spell : A → Kinds
     → Kinds) (tokens : List Token) (from : ℕ) (done items : List A) (last : A) (next : ℕ) → RowPlaced Has spell tokens from done last next
     → items ≡ done ++ last ∷ [] → AreInRow Has spell items (drop from tokens)
@@ -104,7 +104,7 @@ row_placed Has spell tokens from done items last next r is =
     subst (λ (x : List _). AreInRow Has spell x (drop from tokens)) (sym is)
     (row_more Has spell done last (drop from tokens) r.row (subst (Has last) (sym r.ends) r.last_placed))
 
--- one more after the last
+-- one more part after the last
 pub row_goes_on : {A : Type 0} (Has : A → List Token → Type 0) (spell : A → Kinds → Kinds) → ((a : A) → IsFramed (spell a))
     → (tokens : List Token) (from : ℕ) (done items : List A) (last : A) (next : ℕ) (another : A) (following : ℕ)
     → RowPlaced Has spell tokens from done last next → items ≡ done ++ last ∷ [] → Spells tokens (next + 1) following (spell another)
@@ -120,7 +120,7 @@ row_goes_on {A} Has spell law tokens from done items last next another following
   last_spelled = sp;
 }
 
--- parts side by side have their places, and end before a token
+-- consecutive parts are placed, and end before a token
 pub record SidePlaced {A : Type 0} (Has : A → List Token → Type 0) (spell : A → Kinds
     → Kinds) (tokens : List Token) (from : ℕ) (done : List A) (next : ℕ) : Type 0 where
   pub row : AreSideBySide Has spell done (drop from tokens)
@@ -130,7 +130,7 @@ pub side_begun : {A : Type 0} (Has : A → List Token → Type 0) (spell : A →
     → SidePlaced Has spell tokens from [] from
 side_begun Has spell tokens from = record { row = tt; ends = refl }
 
--- one more after them
+-- one more part after them
 pub side_goes_on : {A : Type 0} (Has : A → List Token → Type 0) (spell : A → Kinds → Kinds) → ((a : A) → IsFramed (spell a))
     → (tokens : List Token) (from : ℕ) (done items : List A) (next : ℕ) (another : A) (following : ℕ) → SidePlaced Has spell tokens from done next
     → items ≡ done ++ another ∷ [] → Spells tokens next following (spell another) → Has another (drop next tokens)
@@ -144,7 +144,7 @@ side_goes_on {A} Has spell law tokens from done items next another following r i
       ∙ past_text (spell another) (law another) tokens next following sp;
 }
 
--- after two texts stands what stands after the second, after the first
+-- what follows two texts follows the second, after the first
 pub past_both : (f g : Kinds → Kinds) → IsFramed f → (tokens : List Token) → past (λ rest. f (g rest)) tokens ≡ past g (past f tokens)
 past_both f g law tokens =
     let long : length (f (g [])) ≡ length (f []) + length (g []) = ap length (sym (law [] (g []))) ∙ length-append (f []) (g []) in
@@ -163,7 +163,7 @@ bracket_text bound = brackets_text (option_map written bound ∷ [])
 pub bracket_framed : (bound : Option RawExpr) → IsFramed (bracket_text bound)
 bracket_framed bound = brackets_append (option_map written bound ∷ [])
 
--- one bound more
+-- one more bound
 pub bracket_goes_on : (tokens : List Token) (from next : ℕ) (done items : List (Option RawExpr)) (bound : Option RawExpr) (following : ℕ)
     → SidePlaced HasBracket bracket_text tokens from done next → items ≡ done ++ bound ∷ []
     → kind_or_end tokens next ≡ token.Punctuator punctuator.OpenBracket
@@ -207,7 +207,7 @@ initials_in : (n : _) (row : first_value.Row_of-RawInitial n) (list : List Token
 initials_in n first_value.end_of-RawInitial list a = tt
 initials_in n (first_value.more_of-RawInitial first others) list a = (a.0, initials_in _ others (drop 1 (past (initial_text (initial first)) list)) a.1)
 
--- the row of the items between braces
+-- the items between braces, as a row
 abbrev items_of : RawInitial → (n : Count) × first_value.Row_of-RawInitial n
 items_of (first_value.TheVariants.List' shape row comma) = (_, row)
 items_of _ = (_, first_value.end_of-RawInitial)
@@ -223,7 +223,7 @@ list_placed list comma tokens from a =
     (sym (first_value.items_hidden-the_row-RawInitial-0 list))
     (one_before (AreInRow IsInitialPlaced (λ i. initial_text (initial i)) list.items) tokens from a))
 
--- what an object holds at first, after its declarator
+-- the initializer of an object, after its declarator
 pub value_after : (d : RawDeclarator) (tokens : List Token) (from next : ℕ) → Spells tokens from next (declarator_text (declarator d))
     → (at : Place) (value : RawInitial) → StandsAt at (drop next tokens) → IsInitialPlaced value (drop (next + 1) tokens)
     → StandsAt at (past (declarator_text (declarator d)) (drop from tokens))

@@ -48,7 +48,7 @@ use Rattle.cs_expr_parser.proofs.Stopping.{refused_number}
 use Rattle.cs_expr_parser.proofs.SitesOfWords.{nothing_named}
 use Rattle.cs_declarator_parser.proofs.BlockSpecSites.{WordsSoFar}
 
--- the place of the token with an index
+-- the position of the token with an index
 abbrev place_at_number : List Token → Option ℕ → Option Place
 place_at_number tokens number = option_map (λ (token : Token). token.place) (option_and_then (λ n. slice_get tokens n) number)
 
@@ -87,7 +87,7 @@ unsettled_none (Plain (word.Enum tag)) e = absurd (false≢true (sym e))
 unsettled_none (StructBody tag members) e = absurd (false≢true (sym e))
 unsettled_none (EnumBody tag constants comma) e = absurd (false≢true (sym e))
 
--- a word without a tag or a body leaves the tag where it is
+-- a word without a tag or a body doesn't change the tag
 unsettled_more : (done : Specs) (s : Spec) → settles s ≡ false → before_tag (joined_specs done (MoreSpecs s NoSpec)) ≡ before_tag done
 unsettled_more NoSpec s e = unsettled_none s e
 unsettled_more (MoreSpecs Static ds) s e = ap (option_map suc) (unsettled_more ds s e)
@@ -168,7 +168,7 @@ tag_more names so_far done s false tokens from next old new is fresh d sp o n =
     let new_none : new ≡ None = n ∙ ap (place_at_number (drop next tokens)) (unsettled_none s is) in
     ap (option_or old) new_none ∙ or_none old ∙ o ∙ ap (place_at_number (drop from tokens)) (sym (unsettled_more done s is))
 
--- words so far have their places, and their tag has
+-- the words so far are placed, and so is their tag
 pub record SpecsPlaced (tokens : List Token) (from next : ℕ) (items : List SpecWord) (tag : Option Place) : Type 0 where
   pub inside : SidePlaced IsSpecPlaced (λ w. spec_text (spec w)) tokens from items next
   pub tag_is : tag ≡ tag_place (specs_list items) (drop from tokens)
@@ -179,7 +179,7 @@ specs_begun tokens from = record { inside = side_begun IsSpecPlaced (λ w. spec_
 pub spec_framed : (w : SpecWord) → IsFramed (spec_text (spec w))
 spec_framed w = spec_append (spec w)
 
--- one word more
+-- one more word
 pub specs_go_on : (names : Names) (so_far : TypeSoFar) (tokens : List Token) (from next : ℕ) (items more : List SpecWord) (found : NextWord)
     (old joined : Option Place) → SpecsPlaced tokens from next items old → Spells tokens from next (specs_text (specs_list items))
     → Describes names so_far (words_of (specs_list items)) → Spells tokens next found.next (spec_text (spec found.word))
@@ -196,7 +196,7 @@ plain_words_of : (ws : List TypeWord) → words_of (specs_of ws) ≡ ws
 plain_words_of [] = refl
 plain_words_of (w ∷ ws) = ap (λ (x : List TypeWord). w ∷ x) (plain_words_of ws)
 
--- one word more inside a block
+-- one more word inside a block
 pub block_specs_go_on : (names : Names) (so_far : TypeSoFar) (tokens : List Token) (from next : ℕ) (items more : List SpecWord) (found : NextWord)
     (one : TypeWord) (old joined : Option Place) → SpecsPlaced tokens from next items old → WordsSoFar names tokens from next so_far items
     → found.word ≡ words.TheVariants.Plain one → Spells tokens next found.next (type_word_text one) → IsWordThere tokens next so_far (Some found)
@@ -311,7 +311,7 @@ group_framed m x y =
     specs_append (specs m.specs) (with_commas declarator_text (map declarator m.declarators.items) (token.Punctuator punctuator.Semicolon ∷ x)) y
     ∙ ap (specs_text (specs m.specs)) (declarators_framed m (token.Punctuator punctuator.Semicolon ∷ x) y)
 
--- the declarators after what stands before them
+-- the declarators after specifiers
 pub declarators_after : (s : RawSpecs) (list : List RawDeclarator) (tokens : List Token) (from next : ℕ) → Spells tokens from next (specs_text (specs s))
     → AreDeclaratorsPlaced list (drop next tokens) → AreDeclaratorsPlaced list (past (specs_text (specs s)) (drop from tokens))
 declarators_after s list tokens from next sp has =

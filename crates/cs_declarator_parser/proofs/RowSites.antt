@@ -73,7 +73,7 @@ row_first D close limit s fits tokens from within first next deep tall sp t h = 
   height_is = omega (arith, h);
 }
 
--- a comma stands after the last phrase
+-- a comma follows the last phrase
 comma_spelled : (D : Class) (close : TokenKind) (limit : ℕ) (tokens : List Token) (from : ℕ) (done : List D.Tree) (last : D.Tree) (next : ℕ) (deep : Bool)
     (tall : ℕ) → RowSoFar D close limit tokens from done last next deep tall → kind_or_end tokens next ≡ comma_token
     → Spells tokens from (next + 1) (before_commas D.spell (done ++ last ∷ []))
@@ -134,7 +134,7 @@ last_front D law tokens from at next done last sp sp' =
     (λ rest. ap (before_commas D.spell done) (splits D law last rest) ∙ sym (before_append D law done [] (D.spell last [] ++ rest))
     ∙ sym (append_assoc (before_commas D.spell done []) (D.spell last []) rest))
 
--- neither a comma nor what closes the row stands after the last phrase
+-- neither a comma nor the closing token follows the last phrase
 pub row_wrong : (D : Class) (close : TokenKind) (limit : ℕ) → (s : Separates D close)
     → (tokens : List Token) (from : ℕ) (done : List D.Tree) (last : D.Tree) (next : ℕ) (reason : Reason) (tall : ℕ)
     → RowSoFar D close limit tokens from done last next (is_deep reason) tall → (kind_or_end tokens next ≡ comma_token → ⊥)
@@ -145,7 +145,7 @@ row_wrong D close limit s tokens from done last next reason tall r comma closed 
   refused = so_far_wrong D close limit s done r.so_far last (kind_or_end tokens next) (is_deep reason) r.took comma closed;
 }
 
--- what closes the row stands there
+-- the next token closes the list
 pub row_taken : {B : Type 0} (D : Class) (close : TokenKind) (limit : ℕ) → (s : Separates D close) → (close ≡ token.Attribute → ⊥)
     → (view : B → List D.Tree) (tokens : List Token) (from : ℕ) (done : List D.Tree) (last : D.Tree) (next : ℕ) (deep : Bool) (tall : ℕ)
     → RowSoFar D close limit tokens from done last next deep tall → kind_or_end tokens next ≡ close
@@ -166,12 +166,12 @@ row_taken D close limit s some view tokens from done last next deep tall r k tak
       (so_far_exact D close limit s done r.so_far last deep (subst (λ (x : TokenKind). Took D limit last x deep) k r.took));
 }
 
--- what may stand after phrases with a comma after each: anything at first, and then not what closes the row
+-- what may follow phrases with a comma after each: anything at the beginning, later not the closing token
 abbrev pub FitFor : {A : Type 0} → TokenKind → List A → Kinds → Type 0
 FitFor close [] following = Unit {0}
 FitFor close (a ∷ all) following = NotClosed close following
 
--- phrases with a comma after each were taken, and one more; a comma may end the row
+-- phrases with a comma after each were taken, and one more; a comma may end the list
 pub record TrailingRow (D : Class) (close : TokenKind) (limit : ℕ) (tokens : List Token) (from : ℕ) (done : List D.Tree) (last : D.Tree) (next : ℕ)
     (deep : Bool) (tall : ℕ) : Type 0 where
   pub at : ℕ
@@ -263,7 +263,7 @@ trailing_next_stops D close limit s fits none tokens from done last next deep ta
     (kind_or_end tokens at) deep'
     (λ empty closed. other (sym (refused_here tokens (next + 1) at front here empty) ∙ closed)) y) stop x
 
--- neither a comma nor what closes the row stands after the last phrase
+-- neither a comma nor the closing token follows the last phrase
 pub trailing_missing : (D : Class) (close : TokenKind) (limit : ℕ) → (s : Separates D close) → NoneCloses D close
     → (tokens : List Token) (from : ℕ) (done : List D.Tree) (last : D.Tree) (next : ℕ) (reason : Reason) (tall : ℕ)
     → TrailingRow D close limit tokens from done last next (is_deep reason) tall → (kind_or_end tokens next ≡ comma_token → ⊥)
@@ -275,7 +275,7 @@ trailing_missing D close limit s none tokens from done last next reason tall r c
       r.took comma closed;
 }
 
--- what closes the row stands there, after a comma or not
+-- the next token closes the list, after a comma or not
 row_closed : (D : Class) (close : TokenKind) (limit : ℕ) → (s : Separates D close) → NoneCloses D close
     → (tokens : List Token) (from : ℕ) (done : List D.Tree) (last : D.Tree) (next : ℕ) (deep : Bool) (tall : ℕ)
     → TrailingRow D close limit tokens from done last next deep tall → (comma : Bool) → (comma ≡ true → kind_or_end tokens next ≡ comma_token)
@@ -306,7 +306,7 @@ closed_spelled D close limit some tokens from done last next deep tall r false c
     (spells_more tokens r.at next (next + 1) (D.spell last) (λ rest. close ∷ rest) r.last_spelled (spells_one tokens next close k some)))
     (λ rest. sym (commas_last D.spell done last (close ∷ rest)))
 
--- a row that was taken
+-- a list that was taken
 pub record IsRowTaken (D : Class) (close : TokenKind) (limit : ℕ) (tokens : List Token) (from next : ℕ) (row : List D.Tree × Bool) (tall : ℕ) :
     Type 0 where
   pub height_is : tall ≡ highest_by D.tall row.0
@@ -324,7 +324,7 @@ trailing_taken D close limit s some none tokens from done last next deep tall r 
   exactly = row_closed D close limit s none tokens from done last next deep tall r comma following k;
 }
 
--- the same of what was taken
+-- the same for the result
 pub row_is_exact : {B : Type 0} (D : Class) (close : TokenKind) (limit : ℕ) (view : B
     → List D.Tree × Bool) (tokens : List Token) (from next : ℕ) (row : List D.Tree × Bool) (tall : ℕ) (taken : Taken B)
     → IsRowTaken D close limit tokens from next row tall → view taken.tree ≡ row → taken.height ≡ tall → taken.next ≡ next

@@ -1,4 +1,4 @@
--- Specifiers outside blocks, and members: the result of each return. For the contracts of `specs`, `members` and the like.
+-- Specifiers outside blocks, and members: the result of each return. For the contracts of `specs`, `members` and their parts.
 use Rattle.std.proofs.Common.{◌≡◌, ℕ, ◌+◌, ◌<◌, ◌≤◌, max, inl, inr, Bool, true, false, Option, Some, None, Result, Ok, Err, List, []}
 use Rattle.std.proofs.Common.{◌∷◌, ◌++◌, length, refl, sym, ap, ◌∙◌, subst, arith, append_assoc, append-nil}
 use Rattle.std.proofs.lemmas.Bool.{false≢true}
@@ -111,7 +111,7 @@ spec_more names limit tokens from next so_far items more tall found w p is =
 unnamed_type : (names : Names) (ws : List TypeWord) → named_by ws ≡ [] → is_type names ws ≡ false
 unnamed_type names ws none = ap (names_type names) none
 
--- the words name no type, and none that begins with the token fits
+-- the words name no type, and no specifier that begins with the token fits
 pub specs_stop : (names : Names) (limit : ℕ) → 1 ≤ limit
     → (tokens : List Token) (from next : ℕ) (so_far : TypeSoFar) (items : List SpecWord) (tall : ℕ) (s : Stop) → tall ≤ limit
     → SpecsSoFar names tokens from next so_far items tall → names_some so_far ≡ false → NothingFits names so_far (kind_or_end tokens next)
@@ -282,7 +282,7 @@ same_struct true false kind s k = absurd (false≢true (k.1 s))
 same_struct false true kind s k = absurd (let z = sym s ∙ k.0 refl in cc)
 same_struct false false kind s k = refl
 
--- which of both stands there
+-- which of the two keywords it is
 pub with_struct : (tokens : List Token) (at brace : ℕ) (tag : Option (List ℕ)) (is_struct : Bool) → IsOpened tokens at brace tag
     → ((is_struct ≡ true → kind_or_end tokens at ≡ token.Keyword keyword.Struct)
     × (kind_or_end tokens at ≡ token.Keyword keyword.Struct → is_struct ≡ true))
@@ -399,7 +399,7 @@ enum_found names limit inner less tag tokens at mid later sp view body b found i
     (λ before none.
     subst (λ (x : TypeSoFar). Describes names x (before ++ word.Enum [] ∷ [])) (sym is.whole) (struct_whole before names (word.Enum []) refl refl none))
 
--- a brace stands after `struct` or `enum` and its tag
+-- a brace follows `struct` or `enum` and its tag
 pub opened_at : (tokens : List Token) (at brace : ℕ) (tag : Option RawName) → IsTagKeyword (kind_or_end tokens at)
     → IsNameAt (λ name. Unit {0}) (kind_or_end tokens (at + 1)) tag → brace ≡ number_after at (name_in tag)
     → kind_or_end tokens brace ≡ token.Punctuator punctuator.OpenBrace → IsOpened tokens at brace (name_in tag)
@@ -418,7 +418,7 @@ opened_at tokens at brace (Some tag) k named number b = record {
   opening = b;
 }
 
--- a tag alone
+-- only a tag
 pub tagged_found : (names : Names) (limit : ℕ) → 1 ≤ limit
     → (tokens : List Token) (at following : ℕ) (tag : Option RawName) (name : RawName) → tag ≡ Some name → IsTagKeyword (kind_or_end tokens at)
     → IsNameAt (λ name. Unit {0}) (kind_or_end tokens (at + 1)) tag → following ≡ number_after at (name_in tag)

@@ -1,4 +1,4 @@
--- Words of a type that a token's word can't follow: for the contracts of the parts that parse specifiers.
+-- Words that can't follow the words of a type so far: for the contracts of the parts that parse specifiers.
 use Rattle.std.proofs.Common.{◌≡◌, ℕ, ◌+◌, inl, inr, Bool, true, false, if◌then◌else◌, List, [], ◌∷◌, ◌++◌, Option, Some, None}
 use Rattle.std.proofs.Common.{Result, Ok, Err, refl, sym, ap, ◌∙◌, subst, arith}
 use Rattle.std.specs.Option.{option_map}
@@ -56,7 +56,7 @@ unknown_unusable names so_far (word.Integer i) k = absurd (false≢true (sym k))
 unknown_unusable names so_far (word.Struct tag) k = absurd (false≢true (sym k))
 unknown_unusable names so_far (word.Enum tag) k = absurd (false≢true (sym k))
 
--- no word of a type is the token
+-- the token is no word of a type
 pub no_word_fits : (names : Names) (so_far : TypeSoFar) (next : TokenKind) → IsTypeWord names next None → HasNoTag next → NothingFits names so_far next
 no_word_fits names so_far next none tagless = λ before d.
     no_word_stuck names so_far before next d (λ one e.
@@ -70,7 +70,7 @@ untagged_text (word.Typedef name) rest t = refl
 untagged_text (word.Struct tag) rest t = absurd (false≢true (sym t))
 untagged_text (word.Enum tag) rest t = absurd (false≢true (sym t))
 
--- the word that a token is is the only one that begins with it
+-- a token's word is the only one that begins with the token
 same_first : (next : TokenKind) (found one : TypeWord) (tagged : Bool) → HasNoTag next → ((rest : Kinds) → type_word_text found rest ≡ next ∷ rest)
     → first_of_word one ≡ next → has_tag one ≡ tagged → one ≡ found
 same_first next found one true none t e tag = absurd (no_tag next none one e tag)
@@ -171,7 +171,7 @@ keyword_word names keyword.Const = (λ rest. refl, refl, refl)
 keyword_word names keyword.Void = (λ rest. refl, refl, refl)
 keyword_word names other = integer_word names other (word_of other) refl refl
 
--- a keyword stands there
+-- the token is a keyword
 pub keyword_type_word : (names : Names) (next : TokenKind) (k : Keyword) (found : Option TypeWord) → next ≡ token.Keyword k → found ≡ word_of_keyword k
     → IsTypeWord names next found
 keyword_type_word names next k found e is =
@@ -282,7 +282,7 @@ unnamed : (next : TokenKind) → ((name : List ℕ) → next ≡ token.Name name
 unnamed (token.Name name) none = absurd (none name refl tt)
 unnamed _ none = refl
 
--- no tag stands after `struct` or `enum`
+-- no tag follows `struct` or `enum`
 pub tag_unnamed : (names : Names) (tokens : List Token) (at : ℕ) → IsTagKeyword (kind_or_end tokens at)
     → IsNameAt (λ name. Unit {0}) (kind_or_end tokens (at + 1)) None → (s : Stop) → RefusesAfter (at + 1) false s
     → BlockTagAnswer names tokens at (Err s)
@@ -292,7 +292,7 @@ tag_unnamed names tokens at k none (stop.Refused refused reason) r = (
   inl (record { is_struct = k.0; stands = tag_stands k.0 (kind_or_end tokens at) k.1; none = unnamed (kind_or_end tokens (at + 1)) none; refused_is = r.0 }),
 )
 
--- a brace stands after the tag
+-- a brace follows the tag
 pub tag_braced : (tokens : List Token) (at : ℕ) → IsTagKeyword (kind_or_end tokens at)
     → (tag : List ℕ) → kind_or_end tokens (at + 1) ≡ token.Name tag → kind_or_end tokens (at + 2) ≡ token.Punctuator punctuator.OpenBrace
     → (reason : Reason) → is_deep reason ≡ false → BlockTagStops tokens at (stop.Refused (at + 2) reason)

@@ -42,7 +42,7 @@ use Rattle.cs_expr_parser.proofs.Stopping.{deep_reason}
 use Rattle.cs_expr_parser.proofs.EndOfInput.{no_end}
 use Rattle.cs_expr_parser.proofs.Telling.{plain_not_unsupported, yields_reason, text_ends, text_plain}
 
--- the next token is refused as too deep exactly where some phrase of the level, of any height, continues with it
+-- the next token is refused as too deep exactly if some phrase of the level, of any height, continues with it
 abbrev YieldsDepth : Names → ℕ → Kinds → Option TokenKind → Reason → Type 0
 YieldsDepth names level front (Some next) TooDeep = BeginsPhrase names level (front ++ next ∷ [])
 YieldsDepth names level front (Some next) other = BeginsPhrase names level (front ++ next ∷ []) → ⊥
@@ -67,7 +67,7 @@ kind_found : (tokens : List Token) (at : ℕ) (P : Option TokenKind → Type 0) 
 kind_found tokens at P some none (Some t) e = some t.kind (kind_of_some tokens at t e)
 kind_found tokens at P some none None e = none (kind_of_none tokens at e)
 
--- what holds of each token, and of the end of input, holds at an index
+-- what holds for each token, and for the end of input, holds at an index
 kind_cases : (tokens : List Token) (at : ℕ) (P : Option TokenKind → Type 0) → ((next : TokenKind) → kind_or_end tokens at ≡ next → P (Some next))
     → (kind_or_end tokens at ≡ token.Attribute → P None) → P (kind_at tokens at)
 kind_cases tokens at P some none = kind_found tokens at P some none (slice_get tokens at) refl
@@ -109,7 +109,7 @@ took_ends names level limit e TooDeep t = absurd (t.joined refl [] (omega arith)
 took_ends names level limit e Unsupported t = tt
 took_ends names level limit e Syntax t = tt
 
--- a phrase that was taken, with the reason for a refusal of the token after it
+-- a phrase that was taken, with the reason for which the token after it is refused
 taken_is : (names : Names) (level limit : ℕ) (tokens : List Token) (from : ℕ) (phrase : Phrase) → phrase.height ≡ height (written phrase.tree)
     → Spells tokens from phrase.next (text (written phrase.tree)) → from < phrase.next
     → Took (Expressions names level) limit (written phrase.tree) (kind_or_end tokens phrase.next) (is_deep phrase.otherwise)
@@ -148,7 +148,7 @@ taken_is names level limit tokens from phrase h sp some t l p = record {
   took = t;
 }
 
--- the answer of a part as that of `expression`
+-- the result of a part as that of `expression`
 pub phrase_taken : (names : Names) (level limit : ℕ) (tokens : List Token) (from : ℕ) (taken : Taken) (phrase : Phrase)
     → IsTakenFrom names level limit tokens from taken → phrase.tree ≡ taken.tree → phrase.height ≡ taken.height → phrase.next ≡ taken.next
     → phrase.otherwise ≡ reason_of taken.deep (kind_or_end tokens taken.next) (ends_in_type (written taken.tree))
@@ -191,7 +191,7 @@ refused_yields names level limit front next TooDeep r = begins_phrase names leve
 refused_yields names level limit front next Unsupported r = refused_never names level limit front next false r refl
 refused_yields names level limit front next Syntax r = refused_never names level limit front next false r refl
 
--- at the end of input no higher phrase goes on
+-- at the end of input no higher phrase continues
 refused_ends : (names : Names) (level limit : ℕ) (front : Kinds) (deep : Bool) → Refused (Expressions names level) limit front token.Attribute deep
     → Refused (Expressions names level) limit front token.Attribute false
 refused_ends names level limit front false r = r
@@ -204,7 +204,7 @@ begun_is : (names : Names) (level limit : ℕ) (front : Kinds) → (front ≡ []
 begun_is names level limit front (inl e) = inl e
 begun_is names level limit front (inr b) = inr (record { phrase = b.phrase; more = b.more; is_phrase = b.is_phrase; low = b.low; spelled = b.spelled })
 
--- the answer of a part that gives no phrase
+-- the result of a part that returns no phrase
 pub stop_is : (names : Names) (level limit : ℕ) (tokens : List Token) (from : ℕ) (s : Stop) → Stops (Expressions names level) limit tokens from s
     → IsReported names tokens from s → IsStopped names level limit tokens from s
 stop_is names level limit tokens from stop.Memory r t = tt

@@ -21,7 +21,7 @@ use Rattle.cs_grammar.proofs.Levels.{infix_levels, text_law}
 use Rattle.cs_grammar.proofs.Holes.{Tail, ClosedBy, closed_law, tail_took, tail_refused, closed_exact, closed_wrong, closed_refused, exact_took}
 use Rattle.cs_expr_parser.specs.Leaves.{is_leaf, IsLeaf}
 
--- the least expression
+-- the lowest expression
 abbrev pub zero : Written
 zero = Numeral (record { value = 0; decimal = true; unsigned = false; length = Plain })
 
@@ -53,7 +53,7 @@ height_some (Choice t o e) = omega arith
 height_some (Assign op l r) = omega arith
 height_some (Comma l r) = omega arith
 
--- a phrase of the tightest level is a leaf or stands between parentheses
+-- a phrase of the tightest level is a leaf or between parentheses
 pub data Tight (names : Names) (e : Written) (after tokens : Kinds) : Type 0 where
   leaf : (kind : TokenKind) → is_leaf names kind ≡ true → IsLeaf kind e → tokens ≡ kind ∷ after → Tight names e after tokens
   around : (inner : Written) → e ≡ Enclosed inner → IsWell names inner → tokens ≡ open_parenthesis ∷ text inner (close_parenthesis ∷ after)
@@ -149,7 +149,7 @@ leaf_took names limit kind e some k a = record {
       ];
 }
 
--- a token that begins no primary expression, or one that the limit doesn't allow
+-- a token that begins no primary expression, or a leaf that the limit doesn't allow
 pub leaf_refused : (names : Names) (limit : ℕ) (next : TokenKind) (deep : Bool) → (next ≡ open_parenthesis → ⊥) → is_leaf names next ≡ deep
     → (deep ≡ true → limit < 1) → (deep ≡ true → (e : Written) × IsLeaf next e) → Refused (Expressions names 16) limit [] next deep
 leaf_refused names limit next deep closed is full tree = record {
@@ -177,7 +177,7 @@ leaf_refused names limit next deep closed is full tree = record {
       record { phrase = t.0; more = []; is_phrase = leaf_phrase names next t.0 (is ∙ reported) t.1; spelled = leaf_text next t.0 [] t.1 };
 }
 
--- the place of an expression between parentheses
+-- an expression between parentheses, after the opening one
 pub enclosed_tail : (names : Names) (limit : ℕ) → 2 ≤ limit
     → Tail (Expressions names 16) (ClosedBy (Expressions names 0) close_parenthesis) limit (limit - 1) (open_parenthesis ∷ []) Enclosed (λ rest. Unit {0})
 enclosed_tail names limit least = record {

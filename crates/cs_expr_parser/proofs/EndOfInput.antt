@@ -1,4 +1,4 @@
--- The end of input is no token of an expression: for the contract of `expression`.
+-- The end of input isn't a token of an expression: for the contract of `expression`.
 use Rattle.std.proofs.Common.{◌≡◌, Bool, true, false, not, ◌&&◌, List, [], ◌∷◌, ◌++◌, refl, sym, ap, ◌∙◌}
 use Rattle.std.proofs.lemmas.Bool.{false≢true, and_right}
 use Rattle.cs_ast.specs.declared.token.TokenKind.{TokenKind}

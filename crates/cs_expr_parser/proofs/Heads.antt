@@ -18,7 +18,7 @@ use Rattle.cs_grammar.specs.Chains.{Suffix, indexed, called, selected, followed_
 use Rattle.cs_grammar.proofs.Levels.{looser}
 use Rattle.cs_grammar.proofs.Chains.{IsChain, suffix_join, suffix_height, suffix_phrase}
 
--- a tighter phrase that begins so is too high
+-- a tighter phrase with this beginning is too high
 tight_never : (names : Names) (level limit : ℕ) (front : Kinds) (next : TokenKind) (deep : Bool)
     → Refused (Expressions names (suc level)) limit front next deep → (other : Written) (after following : Kinds) → IsPhrase names level other
     → suc level ≤ level_of other → join_of after ≤ suc level → Near next following → text other after ≡ front ++ following
@@ -27,7 +27,7 @@ tight_never names level limit front next deep r other after following is bound s
     let over = r.never other after following (bound, is.1) shut near same in
     record { reported = over.reported; high = over.high; onward = over.onward }
 
--- a phrase with a suffix is of this level, or tighter
+-- a phrase with this beginning has a suffix of this level, or is tighter
 either_never : (names : Names) (level limit : ℕ) (front : Kinds) (next : TokenKind) (deep : Bool)
     → Refused (Expressions names (suc level)) limit front next deep → (other : Written) (after following : Kinds) → IsPhrase names level other
     → join_of after ≤ suc level → Near next following → text other after ≡ front ++ following
@@ -45,7 +45,7 @@ either_never names level limit front next deep r other after following is shut n
       | inr higher ↦ tight_never names level limit front next deep r other after following is (omega (arith, is.0, higher)) shut near same
     ]
 
--- where the first operand was refused, each phrase that begins so is too high
+-- if the first operand was refused, each phrase with this beginning is too high
 head_never : (names : Names) (level limit : ℕ) (front : Kinds) (next : TokenKind) (deep : Bool) → IsChain level
     → Refused (Expressions names (suc level)) limit front next deep → (other : Written) (after following : Kinds) → IsPhrase names level other
     → join_of after ≤ suc level → Near next following → text other after ≡ front ++ following

@@ -67,7 +67,7 @@ no_suffix_punctuator punctuator.Increment s j = cc
 no_suffix_punctuator punctuator.Decrement s j = cc
 no_suffix_punctuator _ s j = absurd (omega (arith, j))
 
--- the punctuator that is left
+-- the remaining punctuator
 pub last_suffix : (m : Punctuator) → is_suffix m ≡ true → (m ≡ punctuator.OpenBracket → ⊥) → (m ≡ punctuator.OpenParenthesis → ⊥)
     → (m ≡ punctuator.Dot → ⊥) → (m ≡ punctuator.Arrow → ⊥) → (m ≡ punctuator.Increment → ⊥) → m ≡ punctuator.Decrement
 last_suffix punctuator.OpenBracket s a b c d e = absurd (a refl)
@@ -78,7 +78,7 @@ last_suffix punctuator.Increment s a b c d e = absurd (e refl)
 last_suffix punctuator.Decrement s a b c d e = refl
 last_suffix _ s a b c d e = absurd cc
 
--- a punctuator that stands after an operand continues with a postfix expression
+-- a punctuator that may follow an operand continues a postfix expression
 pub some_suffix : (kind : TokenKind) (m : Punctuator) → IsSuffixAt kind (Some m) → join kind ≡ suc 15
 some_suffix kind m s = ap join s.0 ∙ suffix_join m s.1
 
@@ -92,7 +92,7 @@ no_suffix (token.Number k) none j = absurd (omega (arith, j))
 no_suffix (token.Character k) none j = absurd (omega (arith, j))
 no_suffix (token.Text k) none j = absurd (omega (arith, j))
 
--- the operator of a punctuator that goes on on its level
+-- the operator of a punctuator that continues on its level
 abbrev InfixOf : Punctuator → ℕ → Type 0
 InfixOf m level = (operator : InfixOp) × (token.Punctuator m ≡ token.Punctuator (infix_punctuator operator)) × (infix_level operator ≡ level)
 
@@ -166,7 +166,7 @@ suffix_begins names left punctuator.Decrement s is =
     (step_addition names left (suc (height left)) Down is (omega arith)).started
 suffix_begins names left _ s is = absurd cc
 
--- some postfix expression begins with another and a punctuator that stands after one
+-- some postfix expression begins with another and a punctuator that may follow one
 pub postfix_further : (names : Names) (left : Written) (kind : TokenKind) (m : Punctuator) → IsSuffixAt kind (Some m) → IsPhrase names 15 left
     → Begins (Expressions names 15) (text left (kind ∷ []))
 postfix_further names left kind m s is =

@@ -100,7 +100,7 @@ assign_last names opened last store.BitAnd rest = refl
 assign_last names opened last store.BitXor rest = refl
 assign_last names opened last store.BitOr rest = refl
 
--- an expression begins with no token that begins a type
+-- no token that begins a type begins an expression
 expression_no_type : (names : Names) (e : Written) (rest : Kinds) → IsWell names e → begin_type names (text e rest) ≡ false
 expression_no_type names e rest well =
     let b = expression_begins names e rest well in
@@ -114,7 +114,7 @@ listed_no_type : (names : Names) (level : ℕ) (es : WrittenList) (rest : Kinds)
 listed_no_type names level End rest are = refl
 listed_no_type names level (More e es) rest are = expression_no_type names e (after_commas es (close_parenthesis ∷ rest)) are.1
 
--- the last of some tokens are what they are, whatever they are after these
+-- the last tokens after all of these are those after the rest of them, from some state
 abbrev Reaches : Names → List Bool → Last → Kinds → Kinds → Type 0
 Reaches names opened last tokens rest = (following : Last) × (last_of names opened last tokens ≡ last_of names opened following rest)
 
@@ -144,7 +144,7 @@ pointers_last names opened last [] rest = (last, refl)
 pointers_last names opened last (pointer.Star ∷ ps) rest = pointers_last names opened AnyToken ps rest
 pointers_last names opened last (pointer.Const ∷ ps) rest = pointers_last names opened AnyToken ps rest
 
--- a parenthesis and the type that it closes after, whose bounds are read so
+-- a type after an opening parenthesis, up to the closing one, if its bounds are read like this
 type_with : (names : Names) (ws : List TypeWord) (ps : List PointerWord) (bs : WrittenList) (opened : List Bool) (rest : Kinds) → is_type names ws ≡ true
     → ((others : List Bool) (last : Last) → Reaches names others last (bounds_text bs (close_parenthesis ∷ rest)) (close_parenthesis ∷ rest))
     → last_of names (begin_type names (type_text ws ps bs (close_parenthesis ∷ rest)) ∷ opened) AnyToken (type_text ws ps bs (close_parenthesis ∷ rest))
@@ -158,7 +158,7 @@ type_with names ws ps bs opened rest is reach =
     ∙ w.1 ∙ p.1 ∙ b.1
 
 mutual
-  -- the last tokens of an expression, after which no tag stands
+  -- the last tokens of an expression that doesn't follow `struct` or `enum`
   pub text_last : (names : Names) (e : Written) (opened : List Bool) (last : Last) (rest : Kinds) → IsWell names e → named last ≡ AnyToken
       → last_of names opened last (text e rest) ≡ last_of names opened (ending e) rest
   text_last names (Named name) opened last rest well n = ap (λ (x : Last). last_of names opened x rest) n
@@ -222,7 +222,7 @@ mutual
       let others = bounds_last names es opened AnyToken rest are.2 in
       (others.0, text_last names e opened AnyToken (close_bracket ∷ bounds_text es rest) are.1 refl ∙ others.1)
 
--- a parenthesis and the type that it closes after
+-- a type after an opening parenthesis, up to the closing one
 pub type_last : (names : Names) (ws : List TypeWord) (ps : List PointerWord) (bs : WrittenList) (opened : List Bool) (rest : Kinds)
     → is_type names ws ≡ true → ArePhrases names 2 bs
     → last_of names (begin_type names (type_text ws ps bs (close_parenthesis ∷ rest)) ∷ opened) AnyToken (type_text ws ps bs (close_parenthesis ∷ rest))

@@ -30,7 +30,7 @@ question = token.Punctuator punctuator.Question
 abbrev colon : TokenKind
 colon = token.Punctuator punctuator.Colon
 
--- a phrase of the level of choices is one, or tighter
+-- a phrase of the level of conditional expressions is one, or tighter
 data IsChoice (names : Names) (e : Written) (after tokens : Kinds) : Type 0 where
   tighter : 3 ≤ level_of e → IsChoice names e after tokens
   chosen : (test one other : Written) → e ≡ Choice test one other → IsPhrase names 3 test → IsPhrase names 0 one → IsPhrase names 2 other
@@ -43,7 +43,7 @@ choice_is names (Assign op l r) after is = absurd (omega (arith, is.0))
 choice_is names (Comma l r) after is = absurd (omega (arith, is.0))
 choice_is names _ after is = tighter (omega arith)
 
--- the test of a choice that begins so
+-- what was taken before a token other than a question mark is taken on the level of conditional expressions too
 pub choice_passes : (names : Names) (limit : ℕ) (e : Written) (next : TokenKind) (deep : Bool) → (next ≡ question → ⊥)
     → Took (Expressions names 3) limit e next deep → Took (Expressions names 2) limit e next deep
 choice_passes names limit e next deep none t =
@@ -97,7 +97,7 @@ choice_head_refused names limit front next deep r =
           record { reported = over.reported; high = subst (λ (z : Written). limit < height z) (sym w) (omega (arith, over.high)); onward = over.onward }
     ])
 
--- what begins with a test and a question punctuator
+-- a phrase that begins with a test and a question mark is a conditional expression with this test
 choice_test : (names : Names) (limit : ℕ) (e : Written) (deep : Bool) → Took (Expressions names 3) limit e question deep
     → (whole : Written) (after following : Kinds) → IsPhrase names 2 whole → join_of after ≤ 2 → text whole after ≡ text e (question ∷ following)
     → (one other : Written) × (whole ≡ Choice e one other) × IsPhrase names 0 one × IsPhrase names 2 other
@@ -214,7 +214,7 @@ other_took names limit e one deep low t x part next deep' r =
     tail_took (Expressions names 2) (Expressions names 2) limit (limit - 1) (text e (question ∷ text one (colon ∷ []))) (Choice e one) (λ rest. Unit {0})
     (text_law names 2) (other_tail names limit e one deep low t x) part next deep' (λ following near. tt) r
 
--- a phrase of the level of expressions that store is one, or tighter
+-- a phrase of the level of assignments is one, or tighter
 data IsStore (names : Names) (e : Written) (after tokens : Kinds) : Type 0 where
   firmer : 2 ≤ level_of e → IsStore names e after tokens
   stored : (op : AssignOp) (object value : Written) → e ≡ Assign op object value → IsPhrase names 14 object → IsPhrase names 1 value
@@ -229,7 +229,7 @@ store_is names _ after is = firmer (omega arith)
 store_shut : (op : AssignOp) (more : Kinds) → join_of (token.Punctuator (assign_punctuator op) ∷ more) ≤ 2
 store_shut op more = let j = assign_join op in omega arith
 
--- the object of an expression that stores and begins so
+-- what was taken, unless it is an object before an assignment operator, is taken on the level of assignments too
 pub assign_passes : (names : Names) (limit : ℕ) (e : Written) (next : TokenKind) (deep : Bool)
     → ((op : AssignOp) → next ≡ token.Punctuator (assign_punctuator op) → 14 ≤ level_of e → ⊥) → Took (Expressions names 2) limit e next deep
     → Took (Expressions names 1) limit e next deep

@@ -35,7 +35,7 @@ use Rattle.cs_expr_parser.specs.declared.unary.Before.{Before}
 use Rattle.cs_expr_parser.specs.declared.unary.Before.TheVariants as before
 use Rattle.cs_expr_parser.proofs.Closings.{zero, height_some, open_parenthesis, close_parenthesis}
 
--- the level of the operand after this
+-- the level of the operand after this prefix
 abbrev pub operand_level : Before → ℕ
 operand_level (before.Step by) = 14
 operand_level (before.Operator op) = 13
@@ -78,7 +78,7 @@ before_not_primary names (before.Operator prefix.Complement) = refl
 before_not_primary names (before.Operator prefix.Not) = refl
 before_not_primary names before.Size = refl
 
--- a unary expression is a postfix one, has something before its operand, or is the `sizeof` of a type
+-- a unary expression is a postfix expression, has a prefix before its operand, or is the `sizeof` of a type
 pub data IsUnary (names : Names) (e : Written) (after tokens : Kinds) : Type 0 where
   plain : 15 ≤ level_of e → IsUnary names e after tokens
   prefixed : (b : Before) (operand : Written) → e ≡ prefixed_tree b operand → IsPhrase names (operand_level b) operand
@@ -108,7 +108,7 @@ unary_is names (Choice t o e) after is = absurd (omega (arith, is.0))
 unary_is names (Assign op l r) after is = absurd (omega (arith, is.0))
 unary_is names (Comma l r) after is = absurd (omega (arith, is.0))
 
--- a cast is one, or a unary expression
+-- a phrase of the level of casts is a cast, or a unary expression
 pub data IsCast (names : Names) (e : Written) (after tokens : Kinds) : Type 0 where
   tighter : 14 ≤ level_of e → IsCast names e after tokens
   converted : (parts : TypeParts) (operand : Written) → e ≡ Cast parts.words parts.pointers parts.bounds operand → IsTypeOf names parts
@@ -136,7 +136,7 @@ cast_is names (Choice t o e) after is = absurd (omega (arith, is.0))
 cast_is names (Assign op l r) after is = absurd (omega (arith, is.0))
 cast_is names (Comma l r) after is = absurd (omega (arith, is.0))
 
--- tokens that begin with a token of one kind pass its test
+-- the first of tokens that begin with such a token passes the test
 pub passes_first : (test : TokenKind → Bool) (tokens : Kinds) (first : TokenKind) (others : Kinds) → BeginsWith test tokens → tokens ≡ first ∷ others
     → test first ≡ true
 passes_first test tokens first others b same = let s : b.first ∷ b.others ≡ first ∷ others = sym b.are ∙ same in let e : first ≡ b.first = cc in
@@ -149,11 +149,11 @@ pub type_text_begins : (names : Names) (parts : TypeParts) (after : Kinds) → I
     → BeginsWith (begins_type names) (type_closed_text parts after)
 type_text_begins names parts after is = type_begins names parts.words (type_text [] parts.pointers parts.bounds (close_parenthesis ∷ after)) is.words
 
--- tokens that begin with a type begin with no expression
+-- tokens that begin a type begin no expression
 pub type_no_expression : (names : Names) (tokens : Kinds) → BeginsWith (begins_type names) tokens → BeginsWith (begins_expression names) tokens → ⊥
 type_no_expression names tokens t e = begins_one names t.first (passes_first (begins_expression names) tokens t.first t.others e t.are) t.passes
 
--- a unary expression begins with no type between parentheses
+-- no unary expression begins with a type between parentheses
 pub no_type_inner : (names : Names) (e : Written) (after rest : Kinds) (parts : TypeParts) → IsPhrase names 14 e → IsTypeOf names parts
     → text e after ≡ open_parenthesis ∷ type_closed_text parts rest → ⊥
 no_type_inner names e after rest parts is ty same =
@@ -170,7 +170,7 @@ punctuator_gap punctuator.Increment h = absurd (omega (arith, h))
 punctuator_gap punctuator.Decrement h = absurd (omega (arith, h))
 punctuator_gap _ h = omega arith
 
--- no token continues with a cast or a unary expression
+-- no token continues a cast or a unary expression
 pub join_gap : (tokens : Kinds) → join_of tokens ≤ 15 → join_of tokens ≤ 13
 join_gap [] h = omega arith
 join_gap (token.Punctuator m ∷ others) h = punctuator_gap m h
@@ -182,7 +182,7 @@ join_gap (token.Number k ∷ others) h = omega arith
 join_gap (token.Character k ∷ others) h = omega arith
 join_gap (token.Text k ∷ others) h = omega arith
 
--- after `sizeof` no type stands between parentheses
+-- no type between parentheses follows `sizeof`
 abbrev pub NoType : Names → Before → Kinds → Type 0
 NoType names b following = b ≡ before.Size → (parts : TypeParts) (rest : Kinds) → IsTypeOf names parts
     → following ≡ open_parenthesis ∷ type_closed_text parts rest → ⊥
@@ -212,7 +212,7 @@ zero_phrase names (before.Step by) = (omega arith, tt)
 zero_phrase names (before.Operator op) = (omega arith, tt)
 zero_phrase names before.Size = (omega arith, tt)
 
--- an operand with something before it
+-- an operand after a prefix
 pub before_tail : (names : Names) (limit : ℕ) (b : Before) → 2 ≤ limit
     → Tail (Expressions names 14) (Expressions names (operand_level b)) limit (limit - 1) (before_text b ∷ []) (prefixed_tree b) (NoType names b)
 before_tail names limit b least = record {
@@ -248,7 +248,7 @@ before_tail names limit b least = record {
 no_tokens : (names : Names) (e : Written) (after : Kinds) → IsPhrase names 14 e → text e after ≡ [] → ⊥
 no_tokens names e after is same = let b = expression_begins names e after is.1 in let s = sym b.are ∙ same in cc
 
--- what `sizeof` begins: it stands before a unary expression, or before a type
+-- what follows `sizeof` is a unary expression, or a type
 pub size_is : (names : Names) (e : Written) (after following : Kinds) → IsPhrase names 14 e → text e after ≡ token.Keyword keyword.Sizeof ∷ following
     → ((x : Written) × (e ≡ SizeOf x) × IsPhrase names 14 x × (following ≡ text x after))
     ⊎ ((parts : TypeParts) × (e ≡ SizeOfType parts.words parts.pointers parts.bounds) × IsTypeOf names parts
@@ -265,7 +265,7 @@ size_is names e after following is same =
       | measured parts w ty t ↦ let s = sym t ∙ same in inr (parts, w, ty, cc)
     ]
 
--- what stands before an operand, and the limit doesn't allow the operand
+-- a prefix, and the limit doesn't allow its operand
 pub before_full : (names : Names) (limit : ℕ) (b : Before) → limit < 2 → Refused (Expressions names 14) limit [] (before_text b) true
 before_full names limit b full = record {
   begun = inl refl;
@@ -300,7 +300,7 @@ before_full names limit b full = record {
   };
 }
 
--- what was taken with nothing before it
+-- what was taken without a prefix is taken on the level of unary expressions too
 pub unary_passes : (names : Names) (limit : ℕ) (e : Written) (next : TokenKind) (deep : Bool) → Took (Expressions names 15) limit e next deep
     → Took (Expressions names 14) limit e next deep
 unary_passes names limit e next deep t =
@@ -316,7 +316,7 @@ unary_passes names limit e next deep t =
           (postfix_begins names e following t.is_phrase) (sym same ∙ s))
     ]))
 
--- a token before an operand doesn't stand first where a postfix expression was refused
+-- the tokens of a refused postfix expression don't begin with a prefix
 not_before : (names : Names) (limit : ℕ) (front : Kinds) (next : TokenKind) (deep : Bool) (b : Before) (others following : Kinds)
     → Refused (Expressions names 15) limit front next deep → (front ≡ [] → next ≡ before_text b → ⊥) → Near next following
     → before_text b ∷ others ≡ front ++ following → ⊥
@@ -347,7 +347,7 @@ unary_passes_refused names limit front next deep none r =
           (none before.Size) near (sym s ∙ same)
     ]))
 
--- where a unary expression was refused, no type between parentheses stands but where the limit doesn't allow one
+-- the tokens of a refused unary expression begin no type between parentheses, unless the limit doesn't allow one
 pub not_type : (names : Names) (limit : ℕ) (front : Kinds) (next : TokenKind) (deep : Bool) (parts : TypeParts) (rest following : Kinds)
     → Refused (Expressions names 14) limit front next deep → (front ≡ open_parenthesis ∷ [] → begins_type names next ≡ false)
     → IsTypeOf names parts → Near next following → open_parenthesis ∷ type_closed_text parts rest ≡ front ++ following
@@ -384,7 +384,7 @@ not_type names limit (f ∷ g ∷ fs) next deep parts rest following r none ty n
           begins_one names g p (ap (begins_type names) k ∙ b.passes)
     ])
 
--- what was taken without a type between parentheses before it
+-- what was taken without a type between parentheses before it is taken on the level of casts too
 pub cast_passes : (names : Names) (limit : ℕ) (e : Written) (next : TokenKind) (deep : Bool) → Took (Expressions names 14) limit e next deep
     → Took (Expressions names 13) limit e next deep
 cast_passes names limit e next deep t =

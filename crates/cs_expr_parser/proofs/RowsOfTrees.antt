@@ -28,7 +28,7 @@ use Rattle.cs_expr_parser.proofs.Closings.{zero, height_some, close_parenthesis}
 abbrev comma_token : TokenKind
 comma_token = token.Punctuator punctuator.Comma
 
--- trees, and others after them
+-- trees, followed by others
 abbrev pub joined : WrittenList → WrittenList → WrittenList
 joined End others = others
 joined (More first rest) others = More first (joined rest others)
@@ -69,7 +69,7 @@ pub phrases_rest : (names : Names) (level : ℕ) (es fs : WrittenList) → ArePh
 phrases_rest names level End fs a = a
 phrases_rest names level (More e es) fs a = phrases_rest names level es fs a.2
 
--- the list of a vector with one more
+-- the list of a vector with one more tree
 pub list_more : (xs : List RawExpr) (x : RawExpr) → written_list (xs ++ x ∷ []) ≡ joined (written_list xs) (More (written x) End)
 list_more [] x = refl
 list_more (e ∷ es) x = ap (More (written e)) (list_more es x)
@@ -80,7 +80,7 @@ arguments_law names = λ es x y. listed_append es (close_parenthesis ∷ x) y
 pub bounds_law : (names : Names) → Lawful (Rows closed_bounds_text (ArePhrases names 2))
 bounds_law names = λ es x y. bounds_append es (close_parenthesis ∷ x) y
 
--- what any arguments that begin so continue with
+-- what all arguments with this beginning continue with
 abbrev pub ArgumentsGoOn : Names → WrittenList → Type 0
 ArgumentsGoOn names done = (other : WrittenList) (after following : Kinds) → ArePhrases names 1 other
     → arguments_text other after ≡ row_text done following
@@ -138,7 +138,7 @@ NotClosed following = (more : Kinds) → following ≡ close_parenthesis ∷ mor
 abbrev pub Unclosed : WrittenList → Kinds → Type 0
 Unclosed done following = done ≡ End → NotClosed following
 
--- the place of an argument
+-- what follows an argument: a comma or the closing parenthesis
 abbrev pub EndsArgument : Kinds → Type 0
 EndsArgument rest = ((more : Kinds) × (rest ≡ comma_token ∷ more)) ⊎ ((more : Kinds) × (rest ≡ close_parenthesis ∷ more))
 
@@ -188,7 +188,7 @@ argument_hole names limit done are low some go = record {
   };
 }
 
--- an argument begins with no closing parenthesis
+-- no argument begins with the closing parenthesis
 expression_open : (names : Names) (e : Written) (after : Kinds) → IsPhrase names 1 e → NotClosed (text e after)
 expression_open names e after is more same = no_expression_closes names e after more is (sym same)
 
@@ -277,7 +277,7 @@ open_bracket = token.Punctuator punctuator.OpenBracket
 abbrev close_bracket : TokenKind
 close_bracket = token.Punctuator punctuator.CloseBracket
 
--- what any bounds that begin so continue with
+-- what all bounds with this beginning continue with
 abbrev pub BoundsGoOn : Names → WrittenList → Type 0
 BoundsGoOn names done = (other : WrittenList) (after following : Kinds) → ArePhrases names 2 other
     → closed_bounds_text other after ≡ bounds_text done following

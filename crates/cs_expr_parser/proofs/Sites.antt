@@ -67,7 +67,7 @@ node_chain names level limit tokens from whole tree tall next deep n h sp some t
       (subst (λ (e : Written). Grows names level limit e (kind_or_end tokens next) deep) (sym n.tree_is) t));
 }
 
--- tokens of one kind that is no end
+-- one token that isn't the end of input
 pub punctuator_stands : (tokens : List Token) (at : ℕ) (m : Punctuator) → kind_or_end tokens at ≡ token.Punctuator m
     → Spells tokens at (at + 1) (λ rest. token.Punctuator m ∷ rest)
 punctuator_stands tokens at m e = spells_one tokens at (token.Punctuator m) e (λ x. cc)

@@ -48,7 +48,7 @@ head_stops names level limit tokens from c s r =
     stops_pass (Expressions names level) (Expressions names (suc level)) limit tokens from
     (λ front at deep sp x. head_refused names level limit front (kind_or_end tokens at) deep c x) s r
 
--- a chain of the first operand
+-- the chain that is the first operand
 chain_head : (names : Names) (level limit : ℕ) (tokens : List Token) (from : ℕ) (taken : Taken) → IsChain level
     → IsTakenFrom names (suc level) limit tokens from taken → IsChainFrom names level limit tokens from taken
 chain_head names level limit tokens from taken c t = record {
@@ -100,7 +100,7 @@ postfix_full names limit tokens from left whole m c s full n =
     chain_full names 15 limit tokens from left whole c (some_suffix (kind_or_end tokens left.next) m s) full
     (postfix_further names (written left.tree) (kind_or_end tokens left.next) m s c.grows.is_phrase) n
 
--- the number of an element was refused
+-- the subscript of an element was refused
 pub index_stops : (names : Names) (limit : ℕ) (tokens : List Token) (from : ℕ) (left : Taken) → IsChainFrom names 15 limit tokens from left
     → kind_or_end tokens left.next ≡ token.Punctuator punctuator.OpenBracket → left.height < limit
     → (s : Stop) → Stops (Expressions names 0) (limit - 1) tokens (left.next + 1) s → Stops (Expressions names 15) limit tokens from s
@@ -113,7 +113,7 @@ index_stops names limit tokens from left c k low s r =
     closed_refused (Expressions names 0) (token.Punctuator punctuator.CloseBracket) (limit - 1) (text_law names 0) (λ more. omega arith) front
     (kind_or_end tokens at) deep x) s r)
 
--- no bracket closes the number of an element
+-- no bracket closes the subscript of an element
 pub index_unclosed : (names : Names) (limit : ℕ) (tokens : List Token) (from : ℕ) (left number : Taken) (s : Stop)
     → IsChainFrom names 15 limit tokens from left → kind_or_end tokens left.next ≡ token.Punctuator punctuator.OpenBracket → left.height < limit
     → IsTakenFrom names 0 (limit - 1) tokens (left.next + 1) number → (kind_or_end tokens number.next ≡ token.Punctuator punctuator.CloseBracket → ⊥)
@@ -180,7 +180,7 @@ spells_name tokens at name k =
 no_name : (next : TokenKind) → name_of next ≡ None → (name : List ℕ) → next ≡ token.Name name → ⊥
 no_name next none name e = let z : name_of (token.Name name) ≡ None = ap name_of (sym e) ∙ none in cc
 
--- no name stands after a dot or an arrow
+-- no name follows a dot or an arrow
 unnamed : (tokens : List Token) (at : ℕ) (reason : Reason) → at ≤ length tokens → name_of (kind_or_end tokens at) ≡ None
     → reason ≡ reason_of false (kind_or_end tokens at) false → Stops AnyName 0 tokens at (stop.Refused at reason)
 unnamed tokens at reason within none why =
@@ -215,7 +215,7 @@ member_unnamed names limit tokens from left true s c k low r =
     addition_stops names 15 limit tokens from left punctuator.Arrow AnyName 0 (Arrow (written left.tree)) name_law c k
     (arrow_addition names (written left.tree) limit c.grows.is_phrase (low_left names 15 limit tokens from left c low)) s r
 
--- the answer for a dot or an arrow
+-- the result for a dot or an arrow
 pub member_answer : (names : Names) (limit : ℕ) (tokens : List Token) (from : ℕ) (left : Taken) (through : Bool) (answer : Result Taken Stop)
     → IsChainFrom names 15 limit tokens from left → kind_or_end tokens left.next ≡ token.Punctuator (if through then punctuator.Arrow else punctuator.Dot)
     → left.next < length tokens → left.height < limit → IsSelected through (written left.tree) left.height left.next tokens answer
@@ -228,7 +228,7 @@ member_answer names limit tokens from left through (Err (stop.Refused at reason)
     (subst (λ (x : ℕ). Stops AnyName 0 tokens (left.next + 1) (stop.Refused x reason)) (sym number)
     (unnamed tokens (left.next + 1) reason (omega arith) none why))
 
--- a step after an operand
+-- `++` or `--` after an operand
 pub step_taken : (names : Names) (limit : ℕ) (tokens : List Token) (from : ℕ) (left whole : Taken) (by : Step)
     → IsChainFrom names 15 limit tokens from left → kind_or_end tokens left.next ≡ token.Punctuator (step_punctuator by) → left.next < length tokens
     → left.height < limit → IsNode (StepAfter by (written left.tree)) (left.height + 1) (left.next + 1) false whole

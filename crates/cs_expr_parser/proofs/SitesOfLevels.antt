@@ -44,7 +44,7 @@ low_test : (names : Names) (limit : ℕ) (tokens : List Token) (from : ℕ) (tes
     → test.height < limit → height (written test.tree) < limit
 low_test names limit tokens from test t low = let h = t.height_is in omega arith
 
--- no choice
+-- no conditional expression
 pub choice_none : (names : Names) (limit : ℕ) (tokens : List Token) (from : ℕ) (test : Taken) → IsTakenFrom names 3 limit tokens from test
     → (kind_or_end tokens test.next ≡ question → ⊥) → IsTakenFrom names 2 limit tokens from test
 choice_none names limit tokens from test t none = record {
@@ -54,7 +54,7 @@ choice_none names limit tokens from test t none = record {
   took = choice_passes names limit (written test.tree) (kind_or_end tokens test.next) test.deep none t.took;
 }
 
--- the limit doesn't allow a choice
+-- the limit doesn't allow a conditional expression
 pub choice_full : (names : Names) (limit : ℕ) (tokens : List Token) (from : ℕ) (test whole : Taken) → IsTakenFrom names 3 limit tokens from test
     → kind_or_end tokens test.next ≡ question → limit ≤ test.height → IsNode (written test.tree) test.height test.next true whole
     → IsTakenFrom names 2 limit tokens from whole
@@ -64,7 +64,7 @@ choice_full names limit tokens from test whole t k full n =
     (subst (λ (x : TokenKind). Took (Expressions names 2) limit (written test.tree) x true) (sym k)
     (choice_deep names limit (written test.tree) test.deep (omega arith) (with_question names limit tokens from test t k)))
 
--- the first choice was refused
+-- the second operand was refused
 pub one_stops : (names : Names) (limit : ℕ) (tokens : List Token) (from : ℕ) (test : Taken) → IsTakenFrom names 3 limit tokens from test
     → kind_or_end tokens test.next ≡ question → test.height < limit → (s : Stop) → Stops (Expressions names 0) (limit - 1) tokens (test.next + 1) s
     → Stops (Expressions names 2) limit tokens from s
@@ -75,7 +75,7 @@ one_stops names limit tokens from test t k low s r =
     one_refused names limit (written test.tree) test.deep (low_test names limit tokens from test t low) (with_question names limit tokens from test t k)
     front (kind_or_end tokens at) deep x) s r
 
--- no colon stands after the first choice
+-- no colon follows the second operand
 pub one_unclosed : (names : Names) (limit : ℕ) (tokens : List Token) (from : ℕ) (test one : Taken) (s : Stop) → IsTakenFrom names 3 limit tokens from test
     → kind_or_end tokens test.next ≡ question → test.height < limit → IsTakenFrom names 0 (limit - 1) tokens (test.next + 1) one
     → (kind_or_end tokens one.next ≡ colon → ⊥) → IsRefusalAfter tokens one s → Stops (Expressions names 2) limit tokens from s
@@ -96,7 +96,7 @@ one_is : (names : Names) (limit : ℕ) (tokens : List Token) (from : ℕ) (one :
 one_is names limit tokens from one o k =
     one_exact names limit (written one.tree) one.deep (subst (λ (x : TokenKind). Took (Expressions names 0) limit (written one.tree) x one.deep) k o.took)
 
--- the tokens of a choice up to its colon
+-- the tokens of a conditional expression up to its colon
 pub choice_front : (names : Names) (limit : ℕ) (tokens : List Token) (from : ℕ) (test one : Taken) → IsTakenFrom names 3 limit tokens from test
     → kind_or_end tokens test.next ≡ question → IsTakenFrom names 0 (limit - 1) tokens (test.next + 1) one → kind_or_end tokens one.next ≡ colon
     → Spells tokens from (one.next + 1) (λ rest. text (written test.tree) (question ∷ text (written one.tree) (colon ∷ rest)))
@@ -107,7 +107,7 @@ choice_front names limit tokens from test one t k o c =
     (spells_more tokens (test.next + 1) one.next (one.next + 1) (text (written one.tree)) (λ rest. colon ∷ rest) o.spelled
     (punctuator_stands tokens one.next punctuator.Colon c)))
 
--- the other choice was refused
+-- the third operand was refused
 pub other_stops : (names : Names) (limit : ℕ) (tokens : List Token) (from : ℕ) (test one : Taken) → IsTakenFrom names 3 limit tokens from test
     → kind_or_end tokens test.next ≡ question → test.height < limit → IsTakenFrom names 0 (limit - 1) tokens (test.next + 1) one
     → kind_or_end tokens one.next ≡ colon → (s : Stop) → Stops (Expressions names 2) (limit - 1) tokens (one.next + 1) s
@@ -125,7 +125,7 @@ other_stops names limit tokens from test one t k low o c s r =
     other_refused names limit (written test.tree) (written one.tree) test.deep (low_test names limit tokens from test t low)
     (with_question names limit tokens from test t k) (one_is names (limit - 1) tokens (test.next + 1) one o c) front (kind_or_end tokens at) deep x) s r
 
--- the choice of its three parts
+-- the conditional expression with these three parts
 pub choice_taken : (names : Names) (limit : ℕ) (tokens : List Token) (from : ℕ) (test one other whole : Taken)
     → IsTakenFrom names 3 limit tokens from test → kind_or_end tokens test.next ≡ question → test.height < limit
     → IsTakenFrom names 0 (limit - 1) tokens (test.next + 1) one → kind_or_end tokens one.next ≡ colon
@@ -148,7 +148,7 @@ choice_taken names limit tokens from test one other whole t k low o c x n =
     (with_question names limit tokens from test t k) (one_is names (limit - 1) tokens (test.next + 1) one o c) (written other.tree)
     (kind_or_end tokens other.next) other.deep x.took)
 
--- nothing is stored
+-- no assignment
 pub assign_none : (names : Names) (limit : ℕ) (tokens : List Token) (from : ℕ) (object : Taken) → IsTakenFrom names 2 limit tokens from object
     → ((op : AssignOp) → kind_or_end tokens object.next ≡ token.Punctuator (assign_punctuator op) → 14 ≤ level_of (written object.tree) → ⊥)
     → IsTakenFrom names 1 limit tokens from object

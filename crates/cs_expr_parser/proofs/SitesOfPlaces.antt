@@ -38,7 +38,7 @@ spelled_ends tokens from next tree sp =
     let n = refused_number tokens from next (text (written tree) []) (taken_front tokens from next (written tree) sp) in
     drop-drop (length (text (written tree) [])) from tokens ∙ ap (λ (x : ℕ). drop x tokens) (sym n)
 
--- after an expression that was taken stand the tokens from its end on
+-- an expression that was taken is followed by the tokens from its end
 pub taken_ends : (names : Names) (level limit : ℕ) (tokens : List Token) (from : ℕ) (taken : Taken) → IsTakenFrom names level limit tokens from taken
     → EndsAt tokens from taken.tree taken.next
 taken_ends names level limit tokens from taken t = spelled_ends tokens from taken.next taken.tree t.spelled
@@ -47,7 +47,7 @@ pub chain_ends_at : (names : Names) (level limit : ℕ) (tokens : List Token) (f
     → EndsAt tokens from taken.tree taken.next
 chain_ends_at names level limit tokens from taken t = spelled_ends tokens from taken.next taken.tree t.spelled
 
--- the same tree has the same places
+-- the same tree is placed in the same way
 pub same_placed : (tokens : List Token) (from : ℕ) (tree other : RawExpr) → other ≡ tree → HasPlaces tree (drop from tokens)
     → HasPlaces other (drop from tokens)
 same_placed tokens from tree other e p = subst (λ (x : RawExpr). HasPlaces x (drop from tokens)) (sym e) p
@@ -82,7 +82,7 @@ last_placed tokens from test next one after_one other e f p =
     (sym (ap (λ (x : List Token). drop 1 (after_tree one x)) (ap (λ (x : List Token). drop 1 x) e ∙ drop_one tokens next)
     ∙ ap (λ (x : List Token). drop 1 x) f ∙ drop_one tokens after_one)) p
 
--- the tokens after expressions in a row
+-- the tokens after a list of expressions
 abbrev pub after_row : List RawExpr → List Token → List Token
 after_row [] tokens = tokens
 after_row (tree ∷ trees) tokens = after_row trees (drop 1 (after_tree tree tokens))
@@ -97,7 +97,7 @@ row_longer : (trees : List RawExpr) (tree : RawExpr) (tokens : List Token)
 row_longer [] tree tokens = refl
 row_longer (t ∷ ts) tree tokens = row_longer ts tree (drop 1 (after_tree t tokens))
 
--- the arguments so far and the last one have their places
+-- the arguments so far and the last one are placed
 pub record ArgumentsPlaced (tokens : List Token) (from : ℕ) (done : List RawExpr) (last : Taken) : Type 0 where
   pub at : ℕ
   pub row : AreInRow done (drop from tokens)
@@ -140,7 +140,7 @@ brackets_longer : (trees : List RawExpr) (tree : RawExpr) (tokens : List Token)
 brackets_longer [] tree tokens = refl
 brackets_longer (t ∷ ts) tree tokens = brackets_longer ts tree (drop 1 (after_tree t (drop 1 tokens)))
 
--- the bounds so far have their places, and end before a token
+-- the bounds so far are placed, and end before a token
 pub record BoundsPlaced (tokens : List Token) (from next : ℕ) (done : List RawExpr) : Type 0 where
   pub brackets : AreInBrackets done (drop from tokens)
   pub ends : after_brackets done (drop from tokens) ≡ drop next tokens
@@ -171,7 +171,7 @@ bounds_placed tokens from next whole b n = record {
   ends = ap (λ (x : List Token). drop 1 x) b.ends ∙ drop_one tokens next ∙ ap (λ (x : ℕ). drop x tokens) (sym n);
 }
 
--- a type has its places where its tag and its bounds have
+-- a type is placed if its tag and its bounds are
 pub type_placed : (names : Names) (tokens : List Token) (from : ℕ) (words : TypeWords) (pointers : PointerWords) (listed : Listed) (whole : TakenType)
     → IsWordsFrom names tokens from words → IsPointersFrom tokens words.next pointers → whole.ty.words.items ≡ words.words.items
     → whole.ty.pointers.items ≡ pointers.words.items → whole.bounds.items ≡ listed.trees.items → whole.next ≡ listed.next
@@ -198,13 +198,13 @@ type_placed names tokens from words pointers listed whole w p ws ps bs n tag b =
           ∙ ap (λ (x : ℕ). drop x tokens) (sym n);
     }
 
--- the answer for a dot or an arrow
+-- the result for a dot or an arrow
 pub selected_placed : (tokens : List Token) (from : ℕ) (left : Taken) (answer : Result Taken Stop) → IfOk answer (IsBuiltAfter tokens left)
     → HasPlaces left.tree (drop from tokens) → EndsAt tokens from left.tree left.next → IsOkPlaced tokens from answer
 selected_placed tokens from left (Ok whole) b here ends = b from here ends
 selected_placed tokens from left (Err s) b here ends = tt
 
--- where the limit allows nothing, nothing was taken
+-- if the limit allows nothing, nothing was taken
 pub narrow_placed : (tokens : List Token) (from : ℕ) (answer : Result Taken Stop) → IsBounded 0 tokens (from + 2) answer → IsOkPlaced tokens from answer
 narrow_placed tokens from (Ok taken) b = absurd (let l = b.2 in let h = b.3 in omega arith)
 narrow_placed tokens from (Err s) b = tt

@@ -53,7 +53,7 @@ before_stands tokens at (before.Step by) e = spells_one tokens at (before_text (
 before_stands tokens at (before.Operator op) e = spells_one tokens at (before_text (before.Operator op)) e (λ x. cc)
 before_stands tokens at before.Size e = spells_one tokens at (before_text before.Size) e (λ x. cc)
 
--- nothing stands before an operand
+-- no prefix comes before an operand
 pub unary_none_stops : (names : Names) (limit : ℕ) (tokens : List Token) (from : ℕ) → ((b : Before) → kind_or_end tokens from ≡ before_text b → ⊥)
     → (s : Stop) → Stops (Expressions names 15) limit tokens from s → Stops (Expressions names 14) limit tokens from s
 unary_none_stops names limit tokens from none s r =
@@ -72,7 +72,7 @@ unary_none names limit tokens from taken t = record {
   took = unary_passes names limit (written taken.tree) (kind_or_end tokens taken.next) taken.deep t.took;
 }
 
--- an operand after an operator or a step was refused
+-- the operand of a prefix operator, `++` or `--` was refused
 pub operand_stops : (names : Names) (limit : ℕ) (tokens : List Token) (from : ℕ) (b : Before) → 2 ≤ limit → (b ≡ before.Size → ⊥)
     → kind_or_end tokens from ≡ before_text b → (s : Stop) → Stops (Expressions names (operand_level b)) (limit - 1) tokens (from + 1) s
     → Stops (Expressions names 14) limit tokens from s
@@ -104,7 +104,7 @@ operand_taken names limit tokens from b operand whole least other k t n =
     (text_law names (operand_level b)) (before_tail names limit b least) (written operand.tree) (kind_or_end tokens operand.next) operand.deep
     (λ following near e. absurd (other e)) t.took)
 
--- the answer where nothing stands before an operand
+-- the result without a prefix
 pub unary_none_answer : (names : Names) (limit : ℕ) (tokens : List Token) (from : ℕ) (answer : Result Taken Stop)
     → IsOperatorAt (kind_or_end tokens from) None → Answers names 15 limit tokens from answer → Answers names 14 limit tokens from answer
 unary_none_answer names limit tokens from (Ok taken) none a = unary_none names limit tokens from taken a
@@ -134,7 +134,7 @@ opens_not : (names : Names) (first second : TokenKind) → opens_type names firs
     → begins_type names second ≡ false
 opens_not names first second o e = subst (λ (x : TokenKind). opens_type names x second ≡ false) e o
 
--- where a parenthesis stands alone before a refused token, no type begins with that
+-- if the tokens before a refused token are only a parenthesis, the refused token begins no type
 no_type_begins : (names : Names) (tokens : List Token) (from at : ℕ) (front : Kinds)
     → opens_type names (kind_or_end tokens from) (kind_or_end tokens (from + 1)) ≡ false → Spells tokens from at (λ rest. front ++ rest)
     → front ≡ open_parenthesis ∷ [] → begins_type names (kind_or_end tokens at) ≡ false
@@ -147,7 +147,7 @@ no_type_begins names tokens from at front o sp alone =
     subst (λ (x : ℕ). begins_type names (kind_or_end tokens x) ≡ false) e
     (opens_not names (kind_or_end tokens from) (kind_or_end tokens (from + 1)) o first)
 
--- the answer where no type between parentheses stands
+-- the result without a type between parentheses
 pub cast_none_answer : (names : Names) (limit : ℕ) (tokens : List Token) (from : ℕ) (answer : Result Taken Stop)
     → opens_type names (kind_or_end tokens from) (kind_or_end tokens (from + 1)) ≡ false → Answers names 14 limit tokens from answer
     → Answers names 13 limit tokens from answer
@@ -301,7 +301,7 @@ size_type_taken names limit tokens from taken whole least k opens t n =
     (omega arith)
     (size_type_took names limit least (parts_of taken) (kind_or_end tokens taken.next) t.exactly)
 
--- the answer where the limit allows a type alone after the parenthesis
+-- the result if the limit allows only a type after the parenthesis
 pub size_full_answer : (names : Names) (limit : ℕ) (tokens : List Token) (from : ℕ) (answer : Result Taken Stop) → limit ≡ 2
     → kind_or_end tokens from ≡ before_text before.Size → kind_or_end tokens (from + 1) ≡ open_parenthesis
     → opens_type names (kind_or_end tokens (from + 1)) (kind_or_end tokens (from + 1 + 1)) ≡ false → IsBounded 0 tokens (from + 2) answer
@@ -320,7 +320,7 @@ one_token [] k more e = inl refl
 one_token (f ∷ []) k more e = inr (cc)
 one_token (f ∷ g ∷ fs) k more e = absurd cc
 
--- where the limit allows one token alone, none is taken before a refusal
+-- if the limit allows only one token, none is taken before a refusal
 leaf_alone : (names : Names) (e : Written) → height e ≤ 1 → (k : TokenKind) × (text e [] ≡ k ∷ [])
 leaf_alone names (Named name) low = (token.Name name, refl)
 leaf_alone names (Numeral n) low = (token.Number n, refl)

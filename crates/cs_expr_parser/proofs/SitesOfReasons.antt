@@ -1,4 +1,4 @@
--- What each return of the parser's parts implies about the reason of a refusal, over indices of tokens.
+-- What each return of the parser's parts implies for the reason of a refusal, over indices of tokens.
 use Rattle.std.proofs.Common.{◌≡◌, ℕ, suc, ◌+◌, ◌-◌, ◌<◌, ◌≤◌, max, ◌⊎◌, inl, inr, Bool, true, false, ◌&&◌}
 use Rattle.std.proofs.Common.{if◌then◌else◌, List, [], ◌∷◌, ◌++◌, Result, Ok, Err, length, drop, refl, sym, ap, ◌∙◌, subst, arith}
 use Rattle.std.proofs.Common.{append_assoc, append-nil}
@@ -151,7 +151,7 @@ reported_member names limit tokens from left through (Err (stop.Refused at reaso
     (subst (λ (x : ℕ). IsReported names tokens (left.next + 1) (stop.Refused x reason)) (sym number)
     (reported_first names tokens (left.next + 1) false (stop.Refused (left.next + 1) reason) (omega arith) (ap (stop.Refused (left.next + 1)) why)))
 
--- after a test, a choice and a colon
+-- after a test, the second operand and a colon
 pub reported_other : (names : Names) (limit : ℕ) (tokens : List Token) (from : ℕ) (test one : Taken) → IsTakenFrom names 3 limit tokens from test
     → kind_or_end tokens test.next ≡ token.Punctuator punctuator.Question → IsTakenFrom names 0 (limit - 1) tokens (test.next + 1) one
     → kind_or_end tokens one.next ≡ token.Punctuator punctuator.Colon → (s : Stop) → IsReported names tokens (one.next + 1) s
@@ -199,13 +199,13 @@ resets_bounds names (More e es) are opened last front =
           ++ front) are.1 refl ∙ r.1,
     )
 
--- what is open after some tokens, and what the last of them are
+-- which parentheses are open after some tokens, and what the last tokens are
 reached : (names : Names) (before front : Kinds) (opened : List Bool) (last : Last)
     → (others : List Bool) × (following : Last) × (last_of names opened last (before ++ front) ≡ last_of names others following front)
 reached names [] front opened last = (opened, last, refl)
 reached names (b ∷ bs) front opened last = reached names bs front (opened_by names opened b (bs ++ front)) (last_by opened last b)
 
--- the tokens before are forgotten after these
+-- after these tokens, those before them don't matter
 calm_after : (names : Names) (before mid : Kinds) → Resets names mid → Calm names (before ++ mid)
 calm_after names before mid resets opened front =
     let r = reached names before (mid ++ front) opened AnyToken in
@@ -243,7 +243,7 @@ plain_bounds names End opened are = refl
 plain_bounds names (More e es) opened are = text_last names e opened AnyToken (token.Punctuator punctuator.CloseBracket ∷ bounds_text es []) are.1 refl
     ∙ plain_bounds names es opened are.2
 
--- after a bound no tag and no type ends
+-- bounds don't end with a tag or a type
 bounds_plain : (names : Names) (before : Kinds) (e : Written) (es : WrittenList) → ArePhrases names 2 (More e es)
     → IsPlainEnd names (before ++ bounds_text (More e es) [])
 bounds_plain names before e es are opened =
@@ -276,7 +276,7 @@ reported_after_bounds names limit tokens from next items tall before tag s b yie
       yields = bounds_tell names before (kind_or_end tokens next) items tag b.are yields;
     })
 
--- only memory is wanting where pointers are read
+-- the parser of pointers fails only if memory runs out
 pub reported_pointers : (names : Names) (tokens : List Token) (from at : ℕ) (s : Stop) → PointersAnswer tokens at (Err s) → IsReported names tokens from s
 reported_pointers names tokens from at stop.Memory p = tt
 reported_pointers names tokens from at (stop.Refused number reason) p = absurd p
@@ -302,7 +302,7 @@ reported_bounds names tokens from words pointers w p (stop.Refused at reason) t 
   yields = t.yields;
 }
 
--- what stands before an operand
+-- a prefix
 calm_before : (names : Names) (b : Before) → Calm names (before_text b ∷ [])
 calm_before names (before.Step by) opened front = (opened, step_last names opened AnyToken by front)
 calm_before names (before.Operator op) opened front = (opened, prefix_last names opened AnyToken op front)
@@ -461,7 +461,7 @@ reported_word names tokens from next words (stop.Refused refused reason) sp (mis
     (tag_reported names tokens from next words reason missing.is_struct sp missing.stands (why
     ∙ ap (λ (at : ℕ). plain_reason (kind_or_end tokens at) true) missing.refused_is))
 
--- the words of a type name none
+-- the words so far name no type
 pub reported_no_type : (names : Names) (tokens : List Token) (from next : ℕ) (words : List TypeWord) (s : Stop) → Spells tokens from next (words_text words)
     → named_by words ≡ [] → IsRefusalAt tokens next false s → IsReported names tokens from s
 reported_no_type names tokens from next words s sp none is =

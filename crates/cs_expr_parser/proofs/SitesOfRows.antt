@@ -48,7 +48,7 @@ pub record ArgumentsSoFar (names : Names) (limit : ℕ) (tokens : List Token) (f
   pub height_is : height ≡ max (highest done) last.height
   pub low : highest done ≤ limit
 
--- no argument stands there
+-- no argument comes next
 pub arguments_none : (names : Names) (limit : ℕ) (tokens : List Token) (from : ℕ) (whole : Listed) → kind_or_end tokens from ≡ close_parenthesis
     → whole.trees.items ≡ [] → whole.height ≡ 0 → whole.next ≡ from + 1 → IsRowFrom arguments_text (ArePhrases names 1) limit tokens from whole
 arguments_none names limit tokens from whole k empty tall next = record {
@@ -149,7 +149,7 @@ next_argument names limit tokens from done tall last another a k f =
       low = one_low names limit tokens a.at done last a.last_is a.low;
     }
 
--- neither a comma nor the closing parenthesis stands after an argument
+-- neither a comma nor the closing parenthesis follows an argument
 pub arguments_unclosed : (names : Names) (limit : ℕ) (tokens : List Token) (from : ℕ) (done : WrittenList) (tall : ℕ) (last : Taken) (s : Stop)
     → ArgumentsSoFar names limit tokens from done tall last → (kind_or_end tokens last.next ≡ comma_token → ⊥)
     → (kind_or_end tokens last.next ≡ close_parenthesis → ⊥) → IsRefusalAfter tokens last s
@@ -272,7 +272,7 @@ next_bound names limit tokens from next done tall bound items b k t c is =
       low = let l = b.low in omega arith;
     })
 
--- neither another bound nor the closing parenthesis stands there
+-- the next token is neither another bound nor the closing parenthesis
 pub bounds_unclosed : (names : Names) (limit : ℕ) (tokens : List Token) (from next : ℕ) (done : WrittenList) (tall : ℕ) (s : Stop) (after_type : Bool)
     → BoundsSoFar names limit tokens from next done tall → (kind_or_end tokens next ≡ open_bracket → ⊥)
     → (kind_or_end tokens next ≡ close_parenthesis → ⊥) → s ≡ stop.Refused next (plain_reason (kind_or_end tokens next) after_type)

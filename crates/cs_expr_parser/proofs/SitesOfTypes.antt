@@ -28,7 +28,7 @@ use Rattle.cs_expr_parser.proofs.Standing.{spells_more, spells_as}
 use Rattle.cs_expr_parser.proofs.Stopping.{refused_number, refused_here, stops_in}
 use Rattle.cs_expr_parser.proofs.TypesInside.{IsQuiet, bounds_quiet, head_text, type_exact, type_refused}
 
--- only memory is wanting where pointers are read
+-- the parser of pointers fails only if memory runs out
 pub pointers_stop : (C : Class) (limit : ℕ) (tokens : List Token) (from at : ℕ) (s : Stop) → PointersAnswer tokens at (Err s)
     → Stops C limit tokens from s
 pointers_stop C limit tokens from at stop.Memory p = tt
@@ -42,7 +42,7 @@ quiet_first names ws ps first xs ys q = record {
   no_word = λ none one words more e. let k : first ≡ first_of_word one = cc in q.no_word none one words xs (ap (λ (x : TokenKind). x ∷ xs) k);
 }
 
--- where the words and the pointers end, no other one stands
+-- after the end of the words and the pointers, no other one comes next
 quiet_here : (names : Names) (tokens : List Token) (from : ℕ) (words : TypeWords) (pointers : PointerWords) → IsWordsFrom names tokens from words
     → IsPointersFrom tokens words.next pointers → (following : Kinds) → Near (kind_or_end tokens pointers.next) following
     → IsQuiet names words.words.items pointers.words.items following
@@ -65,7 +65,7 @@ quiet_here names tokens from words pointers w p following near =
       }
     ]
 
--- nor where the bounds after them were refused
+-- nor if the bounds after them were refused
 quiet_front : (names : Names) (ws : List TypeWord) (ps : List PointerWord) (limit : ℕ) (front : Kinds) (next : TokenKind) (deep : Bool)
     → Refused (Rows closed_bounds_text (ArePhrases names 2)) limit front next deep
     → (front ≡ [] → (following : Kinds) → Near next following → IsQuiet names ws ps following) → (following : Kinds) → Near next following
@@ -100,7 +100,7 @@ bounds_stop names limit tokens from words pointers w p s r =
     quiet_here names tokens from words pointers w p following
     (subst (λ (k : TokenKind). Near k following) (refused_here tokens pointers.next at front sp empty) near))) x) s r
 
--- the type of its words, pointers and bounds
+-- the type with these words, pointers and bounds
 pub type_taken : (names : Names) (limit : ℕ) (tokens : List Token) (from : ℕ) (words : TypeWords) (pointers : PointerWords) (listed : Listed)
     (whole : TakenType) → IsWordsFrom names tokens from words → IsPointersFrom tokens words.next pointers
     → IsRowFrom closed_bounds_text (ArePhrases names 2) limit tokens pointers.next listed

@@ -61,7 +61,7 @@ typedef_word names tokens at so_far name found k known w n = record {
   fresh = λ tag. absurd (let s : has_tag (word.Typedef name) ≡ true = ap has_tag (sym w) ∙ tag in false≢true s);
 }
 
--- a keyword that is a word of a type alone
+-- a keyword that is a whole word of a type
 pub plain_word : (names : Names) (tokens : List Token) (at : ℕ) (so_far : TypeSoFar) (k : Keyword) (one : TypeWord) (found : NextWord)
     → kind_or_end tokens at ≡ token.Keyword k → ((rest : Kinds) → type_word_text one rest ≡ token.Keyword k ∷ rest) → has_tag one ≡ false
     → ((name : List ℕ) → one ≡ word.Typedef name → ⊥) → found.word ≡ one → found.next ≡ at + 1 → IsWordAt names tokens at so_far found
@@ -84,7 +84,7 @@ integer_text keyword.Signed one e = let s : Signed ≡ one = cc in ap integer_wo
 integer_text keyword.Unsigned one e = let s : Unsigned ≡ one = cc in ap integer_word_text (sym s)
 integer_text _ one e = absurd cc
 
--- a keyword with which no word of an integer type begins
+-- a keyword that begins no word of an integer type
 integer_none : (kind : Keyword) (one : IntegerWord) → word_of kind ≡ None → integer_word_text one ≡ token.Keyword kind → ⊥
 integer_none kind Char n e = let k : kind ≡ keyword.Char = cc in let z : word_of keyword.Char ≡ None = ap word_of (sym k) ∙ n in cc
 integer_none kind Short n e = let k : kind ≡ keyword.Short = cc in let z : word_of keyword.Short ≡ None = ap word_of (sym k) ∙ n in cc
@@ -93,7 +93,7 @@ integer_none kind Long n e = let k : kind ≡ keyword.Long = cc in let z : word_
 integer_none kind Signed n e = let k : kind ≡ keyword.Signed = cc in let z : word_of keyword.Signed ≡ None = ap word_of (sym k) ∙ n in cc
 integer_none kind Unsigned n e = let k : kind ≡ keyword.Unsigned = cc in let z : word_of keyword.Unsigned ≡ None = ap word_of (sym k) ∙ n in cc
 
--- the keyword is none of those that begin a word which is of no integer type
+-- the keyword begins no other word of a type
 pub record IsOther (kind : Keyword) : Type 0 where
   pub no_struct : kind ≡ keyword.Struct → ⊥
   pub no_enum : kind ≡ keyword.Enum → ⊥
@@ -108,7 +108,7 @@ integer_no_word names so_far kind o n (word.Typedef name) e = absurd cc
 integer_no_word names so_far kind o n (word.Struct tag) e = absurd (o.no_struct cc)
 integer_no_word names so_far kind o n (word.Enum tag) e = absurd (o.no_enum cc)
 
--- the answer where another keyword stands
+-- the result for another keyword
 pub integer_answer : (names : Names) (tokens : List Token) (at : ℕ) (so_far : TypeSoFar) (kind : Keyword) (found : Option NextWord)
     → kind_or_end tokens at ≡ token.Keyword kind → IsOther kind → IsIntegerAt kind at found → WordAnswer names tokens at so_far (Ok found)
 integer_answer names tokens at so_far kind (Some found) stands o (one, is, w, n, tag) =
@@ -152,7 +152,7 @@ tag_unusable names so_far false some (word.Typedef name) e = absurd cc
 tag_unusable names so_far true some (word.Integer one) e = absurd (integer_none keyword.Struct one refl e)
 tag_unusable names so_far false some (word.Integer one) e = absurd (integer_none keyword.Enum one refl e)
 
--- the answer where `struct` or `enum` stands
+-- the result for `struct` or `enum`
 pub tag_answer : (names : Names) (tokens : List Token) (at : ℕ) (so_far : TypeSoFar) (is_struct : Bool) (answer : Result (Option NextWord) Stop)
     → kind_or_end tokens at ≡ token.Keyword (if is_struct then keyword.Struct else keyword.Enum) → TagAnswer is_struct tokens at so_far answer
     → WordAnswer names tokens at so_far answer
@@ -176,12 +176,12 @@ name_unusable names so_far name none (word.Typedef other) e = let o : name ≡ o
 name_unusable names so_far name none (word.Struct tag) e = absurd cc
 name_unusable names so_far name none (word.Enum tag) e = absurd cc
 
--- a name that is no typedef name is no word of a type
+-- a name that isn't a typedef name isn't a word of a type
 pub name_no_word : (names : Names) (so_far : TypeSoFar) (next : TokenKind) (name : List ℕ) → next ≡ token.Name name → is_among names name ≡ false
     → NoWord names so_far next
 name_no_word names so_far next name n none one e = name_unusable names so_far name none one (e ∙ n)
 
--- nor is what is neither a name nor a keyword
+-- nor is a token that is neither a name nor a keyword
 pub punctuator_no_word : (names : Names) (so_far : TypeSoFar) (next : TokenKind) → name_of next ≡ None → keyword_of next ≡ None
     → NoWord names so_far next
 punctuator_no_word names so_far next n k word.Const e = absurd (let z = ap keyword_of e ∙ k in cc)
@@ -275,7 +275,7 @@ word_stands tokens at next w sp =
     let f = word_first w (kinds (drop next tokens)) in
     kinds_first (drop at tokens) (first_of_word w) f.0 (sp.spelled ∙ f.1)
 
--- a word stands there, but no type continues with it
+-- the next token is a word, but no type continues with it
 pub unjoined_stuck : (names : Names) (tokens : List Token) (at : ℕ) (so_far : TypeSoFar) (words : List TypeWord) (found : NextWord)
     → Describes names so_far words → IsWordAt names tokens at so_far found → IsExtended names words found.word None
     → IsStuck names words (kind_or_end tokens at)
@@ -291,17 +291,17 @@ word_known names word.Void k = refl
 word_known names (word.Struct tag) k = refl
 word_known names (word.Enum tag) k = refl
 
--- a word that stands there may be part of a type
+-- a word that was found may be part of a type
 pub found_known : (names : Names) (tokens : List Token) (at : ℕ) (so_far : TypeSoFar) (found : NextWord) → IsWordAt names tokens at so_far found
     → is_known names found.word ≡ true
 found_known names tokens at so_far found w = word_known names found.word w.known
 
--- no word stands there, or one that can't be used
+-- the next token isn't a word, or is one that can't be used
 pub no_word_joins : (names : Names) (tokens : List Token) (at : ℕ) (so_far : TypeSoFar) (words : List TypeWord) → Describes names so_far words
     → NoWord names so_far (kind_or_end tokens at) → IsStuck names words (kind_or_end tokens at)
 no_word_joins names tokens at so_far words d n = no_word_stuck names so_far words (kind_or_end tokens at) d n
 
--- a tag is missing there
+-- a tag is missing
 pub tag_missing : (names : Names) (tokens : List Token) (at : ℕ) (so_far : TypeSoFar) (words : List TypeWord) (s : Stop) → Describes names so_far words
     → WordAnswer names tokens at so_far (Err s) → JoiningAnswer names words tokens at (Err s)
 tag_missing names tokens at so_far words stop.Memory d w = tt
@@ -400,7 +400,7 @@ pub words_taken : (names : Names) (tokens : List Token) (from : ℕ) (so_far : T
 words_taken names tokens from so_far taken w some stuck tagged =
     record { spelled = w.spelled; is_type = some_type names so_far taken.words.items w.describes some; stuck = stuck; tagged = tagged }
 
--- after the words of a type stands no `const`
+-- no `const` follows the words of a type
 pub words_no_const : (names : Names) (tokens : List Token) (from : ℕ) (taken : TypeWords) → IsWordsFrom names tokens from taken
     → kind_or_end tokens taken.next ≡ token.Keyword keyword.Const → ⊥
 words_no_const names tokens from taken w k =

@@ -31,7 +31,7 @@ past_end (t ∷ ts) at e =
 pub kind_of_none : (tokens : List Token) (at : ℕ) → slice_get tokens at ≡ None → kind_or_end tokens at ≡ token.Attribute
 kind_of_none tokens at e = ap first_kind (drop_of_length-le tokens (past_end tokens at e))
 
--- a token that isn't the end stands there, and the others after it
+-- the token at an index, if it isn't the end of input, and the tokens after it
 pub stands : (tokens : List Token) (at : ℕ) (kind : TokenKind) → kind_or_end tokens at ≡ kind → (kind ≡ token.Attribute → ⊥)
     → (at < length tokens) × (kinds (drop at tokens) ≡ kind ∷ kinds (drop (at + 1) tokens))
 stands [] at kind e ne =
@@ -52,7 +52,7 @@ near_list : (tokens : List Token) → Near (first_kind tokens) (kinds tokens)
 near_list [] = inl refl
 near_list (t ∷ ts) = inr (kinds ts, refl)
 
--- what stands from an index on is at its end, or continues with its first token
+-- the tokens from an index are at an end, or continue with the first of them
 pub near : (tokens : List Token) (at : ℕ) → Near (kind_or_end tokens at) (kinds (drop at tokens))
 near tokens at = near_list (drop at tokens)
 
@@ -72,12 +72,12 @@ spells_one tokens at kind e ne =
 pub spells_none : (tokens : List Token) (at : ℕ) → at ≤ length tokens → Spells tokens at at (λ rest. rest)
 spells_none tokens at within = record { onward = omega arith; within = within; spelled = refl }
 
--- tokens, and tokens after them
+-- tokens, followed by others
 pub spells_more : (tokens : List Token) (from mid next : ℕ) (f g : Kinds → Kinds) → Spells tokens from mid f → Spells tokens mid next g
     → Spells tokens from next (λ rest. f (g rest))
 spells_more tokens from mid next f g a b = record { onward = omega (arith, a.onward, b.onward); within = b.within; spelled = a.spelled ∙ ap f b.spelled }
 
--- the same tokens in other words
+-- the same tokens, written differently
 pub spells_as : (tokens : List Token) (from next : ℕ) (f g : Kinds → Kinds) → Spells tokens from next f → ((rest : Kinds) → f rest ≡ g rest)
     → Spells tokens from next g
 spells_as tokens from next f g a same = record { onward = a.onward; within = a.within; spelled = a.spelled ∙ same (kinds (drop next tokens)) }

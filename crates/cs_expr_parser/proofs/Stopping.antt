@@ -25,7 +25,7 @@ not_deep false = refl
 pub plain_not_deep : (next : TokenKind) (after_type : Bool) → is_deep (plain_reason next after_type) ≡ false
 plain_not_deep next after_type = not_deep (is_unsupported next || (after_type && is_brace next))
 
--- the reason says whether a higher phrase continues
+-- the reason states whether a higher phrase continues
 pub deep_reason : (deep : Bool) (next : TokenKind) (after_type : Bool) → is_deep (reason_of deep next after_type) ≡ deep
 deep_reason true next after_type = refl
 deep_reason false next after_type = plain_not_deep next after_type
@@ -70,7 +70,7 @@ stops_pass C D limit tokens from lift stop.Memory s = tt
 stops_pass C D limit tokens from lift (stop.Refused at reason) s =
     record { front = s.front; spelled = s.spelled; refused = lift s.front at (is_deep reason) s.spelled s.refused }
 
--- where tokens are refused after these, they are as many
+-- the tokens between two indices are as many as the indices differ by
 pub refused_number : (tokens : List Token) (from at : ℕ) (front : Kinds) → Spells tokens from at (λ rest. front ++ rest) → at ≡ from + length front
 refused_number tokens from at front sp =
     let a : length (kinds (drop from tokens)) ≡ length tokens - from = length-map (drop from tokens) (λ (t : Token). t.kind) ∙ length-drop from tokens in
@@ -81,7 +81,7 @@ refused_number tokens from at front sp =
     let o = sp.onward in
     omega arith
 
--- after no tokens, the token with the first number was refused
+-- after no tokens, the first token was refused
 pub refused_here : (tokens : List Token) (from at : ℕ) (front : Kinds) → Spells tokens from at (λ rest. front ++ rest) → front ≡ []
     → kind_or_end tokens at ≡ kind_or_end tokens from
 refused_here tokens from at front sp none =

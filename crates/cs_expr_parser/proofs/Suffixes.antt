@@ -240,7 +240,7 @@ of_punctuator_infix between.Multiply = refl
 of_punctuator_infix between.Divide = refl
 of_punctuator_infix between.Remainder = refl
 
--- operators with one punctuator are one
+-- operators with the same punctuator are equal
 pub infix_same : (a b : InfixOp) → infix_punctuator a ≡ infix_punctuator b → a ≡ b
 infix_same a b e = sym (of_punctuator_infix a) ∙ ap of_punctuator e ∙ of_punctuator_infix b
 

@@ -20,7 +20,7 @@ use Rattle.cs_expr_parser.specs.declared.types.NextWord.{NextWord}
 use Rattle.cs_expr_parser.specs.Places.{IsTagPlaced, IsTagGiven, IsTagStanding, IsNextTagged}
 use Rattle.cs_expr_parser.proofs.Standing.{past_end}
 
--- a place is that of the token with this index
+-- a position is that of the token with this index
 place_stands : (tokens : List Token) (at : ℕ) (place : Place) (found : Option Token) → slice_get tokens at ≡ found → StandsAt place (drop at tokens)
     → Some place ≡ option_map (λ (token : Token). token.place) found
 place_stands tokens at place None e s = absurd (subst (StandsAt place) (drop_of_length-le tokens (past_end tokens at e)) s)
@@ -29,7 +29,7 @@ place_stands tokens at place (Some t) e s =
     let d = drop-cons tokens at t less in
     ap Some (subst (StandsAt place) d s ∙ ap (λ (x : Token). x.place) (get_or_from_slice_get tokens at t t e))
 
--- the tag of the words so far has its place; where they have none, each is one token
+-- the tag of the words so far has its position; if they have none, each is one token
 pub record TagSoFar (tokens : List Token) (from next : ℕ) (words : List TypeWord) (tag : Option Place) : Type 0 where
   pub placed : IsTagPlaced tag words (drop from tokens)
   pub absent : tag ≡ None → before_tag words ≡ None
@@ -60,7 +60,7 @@ later (Some x) b n = refl
 later None true n = refl
 later None false n = refl
 
--- the number of the tag of words with one more
+-- the index of the tag of words with one more
 more_tag : (words : List TypeWord) (w : TypeWord)
     → before_tag (words ++ w ∷ []) ≡ first_some (before_tag words) (tag_number (has_tag w) (suc (length words)))
 more_tag [] w = one_tag w
@@ -130,7 +130,7 @@ pub one_more_tag : (tokens : List Token) (from next after : ℕ) (words : List T
 one_more_tag tokens from next after words w old new joined t j g =
     tag_known tokens from next after words w (before_tag words) old new joined (has_tag w) refl refl t.placed t.absent t.counted (j ∙ either_is old new) g
 
--- a tag that stands there
+-- a tag that comes next
 pub tag_next : (is_struct : Bool) (tokens : List Token) (at : ℕ) (so_far : TypeSoFar) (answer : Result (Option NextWord) Stop)
     → TagAnswer is_struct tokens at so_far answer → IsTagStanding tokens at answer → IsNextTagged tokens at answer
 tag_next is_struct tokens at so_far (Ok (Some found)) (tag, k, w, n, fresh) s =

@@ -79,7 +79,7 @@ type_ends : (names : Names) (front : Kinds) → EndsWithType names front → (op
 type_ends names front t opened last e =
     closed_type_ends names t.before t.words t.pointers t.bounds t.type t.phrases opened last (ap (last_of names opened last) (sym t.spelled) ∙ e)
 
--- a token that is reported as a fault isn't unsupported
+-- a token that is refused as a syntax error isn't unsupported
 pub plain_not_unsupported : (names : Names) (front : Kinds) (next : TokenKind) → is_unsupported next ≡ false
     → (is_brace next ≡ true → IsPlainEnd names front) → IsUnsupported names front next → ⊥
 plain_not_unsupported names front (token.Unsupported w) l p o = absurd cc
@@ -117,7 +117,7 @@ type_after names before front t = record {
       ∙ sym (append_assoc before t.before (open_parenthesis ∷ type_text t.words t.pointers t.bounds (close_parenthesis ∷ [])));
 }
 
--- what is unsupported after some tokens is unsupported after others before them
+-- what is unsupported after some tokens is unsupported if others precede them, too
 unsupported_after : (names : Names) (before front : Kinds) (next : TokenKind) → IsUnsupported names front next → IsUnsupported names (before ++ front) next
 unsupported_after names before front (token.Unsupported w) o = tt
 unsupported_after names before front (token.Punctuator punctuator.Ellipsis) o = tt
@@ -133,12 +133,12 @@ unsupported_after names before front (token.Number n) o = absurd o
 unsupported_after names before front (token.Character n) o = absurd o
 unsupported_after names before front (token.Text n) o = absurd o
 
--- some tokens before others, after which a brace stands as after no tokens
+-- the last tokens after these and others are those after only the others
 abbrev pub Calm : Names → Kinds → Type 0
 Calm names before = (opened : List Bool) (front : Kinds)
     → (others : List Bool) × (last_of names opened AnyToken (before ++ front) ≡ last_of names others AnyToken front)
 
--- the same, whatever stands before these
+-- the same, whatever precedes these
 abbrev pub Resets : Names → Kinds → Type 0
 Resets names before = (opened : List Bool) (last : Last) (front : Kinds)
     → (others : List Bool) × (last_of names opened last (before ++ front) ≡ last_of names others AnyToken front)
@@ -161,7 +161,7 @@ reported_in names tokens from mid before spelled calm (stop.Refused at reason) t
   yields = yields_after names before t.front (kind_or_end tokens at) reason calm t.yields;
 }
 
--- the tokens before are forgotten after one that is no end of a type
+-- after one more token, the end of a type before it doesn't matter
 forgotten : (names : Names) (opened : List Bool) (first : TokenKind) (front : Kinds)
     → last_of names opened TypeEnd (first ∷ front) ≡ last_of names opened AnyToken (first ∷ front)
 forgotten names opened (token.Punctuator punctuator.CloseParenthesis) front = refl
@@ -174,7 +174,7 @@ forgotten names opened (token.Number n) front = refl
 forgotten names opened (token.Character n) front = refl
 forgotten names opened (token.Text n) front = refl
 
--- the same after a type between parentheses, where no brace stands after that
+-- the same after tokens that end like a type between parentheses, if no brace follows them
 abbrev EndsAsType : Names → Kinds → Type 0
 EndsAsType names before = (opened : List Bool) (front : Kinds) → last_of names opened AnyToken (before ++ front) ≡ last_of names opened TypeEnd front
 
@@ -246,7 +246,7 @@ brace_unsupported names front (token.Number n) e b = absurd cc
 brace_unsupported names front (token.Character n) e b = absurd cc
 brace_unsupported names front (token.Text n) e b = absurd cc
 
--- the reason of a token that no higher phrase continues with
+-- the reason for a token that no higher phrase continues with
 pub yields_plain : (names : Names) (front : Kinds) (next : TokenKind) (following : Bool)
     → (following ≡ true → EndsWithTag front ⊎ EndsWithType names front) → (following ≡ false → IsPlainEnd names front)
     → YieldsUnsupported names front next (plain_reason next following)
@@ -303,6 +303,6 @@ text_ends names (Member o n) well e = absurd cc
 text_ends names (Arrow o n) well e = absurd cc
 text_ends names (StepAfter s o) well e = absurd cc
 
--- one that doesn't ends with none
+-- one whose last part isn't ends with none
 pub text_plain : (names : Names) (e : Written) → IsWell names e → ends_in_type e ≡ false → IsPlainEnd names (text e [])
 text_plain names e well none opened = text_last names e opened AnyToken [] well refl ∙ ap (λ (b : Bool). if b then TypeEnd else AnyToken) none

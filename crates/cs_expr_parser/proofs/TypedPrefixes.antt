@@ -34,14 +34,14 @@ sizeof_token = token.Keyword keyword.Sizeof
 abbrev pub NoExpression : Names → Kinds → Type 0
 NoExpression names tokens = BeginsWith (begins_expression names) tokens → ⊥
 
--- the least type
+-- the lowest type
 abbrev void_type : TypeParts
 void_type = record { words = word.Void ∷ []; pointers = []; bounds = End }
 
 void_is : (names : Names) → IsTypeOf names void_type
 void_is names = record { words = refl; pointers = refl; bounds = tt }
 
--- where a type is refused, no expression stands
+-- if a type is refused, its tokens begin no expression
 pub refused_type : (names : Names) (limit : ℕ) (front : Kinds) (next : TokenKind) (deep : Bool) → Refused (Types names) limit front next deep
     → (front ≡ [] → begins_type names next ≡ true) → (following : Kinds) → Near next following → NoExpression names (front ++ following)
 refused_type names limit [] next deep r starts following near e =
@@ -242,7 +242,7 @@ size_took names limit least part next deep t =
     (before_tail names limit before.Size least) part next deep
     (λ following near e parts rest ty same. no_type_inner names part following rest parts t.is_phrase ty same) t
 
--- a parenthesis after `sizeof` where the limit allows a type alone
+-- a parenthesis after `sizeof`, if the limit allows only a type
 pub size_full : (names : Names) (front : Kinds) (next : TokenKind) (deep : Bool) → (front ≡ [] → begins_type names next ≡ false)
     → Refused (Expressions names 0) 0 front next deep → Refused (Expressions names 14) 2 (sizeof_token ∷ open_parenthesis ∷ front) next deep
 size_full names front next deep none r =

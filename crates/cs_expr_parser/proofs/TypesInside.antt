@@ -1,4 +1,4 @@
--- The words, pointers and bounds of a type, one after another: for the contracts of `type_words`, `pointer_words` and
+-- The words, pointers and bounds of a type, in this order: for the contracts of `type_words`, `pointer_words` and
 -- `parenthesised_type`.
 use Rattle.std.proofs.Common.{◌≡◌, ℕ, suc, ◌+◌, ◌<◌, ◌≤◌, ◌⊎◌, inl, inr, Bool, true, false, List, [], ◌∷◌, ◌++◌, refl}
 use Rattle.std.proofs.Common.{sym, ap, ◌∙◌, subst, arith, append_assoc, append-nil, Option, Some, None}
@@ -107,7 +107,7 @@ pointers_marked [] bs after is = bounds_marked bs after
 pointers_marked (pointer.Star ∷ ps) bs after is = record { punctuator = punctuator.Star; others = pointers_text ps (closed_bounds_text bs after); are = refl }
 pointers_marked (pointer.Const ∷ ps) bs after is = absurd cc
 
--- words that begin so continue with others
+-- words with this beginning continue with others
 pub words_go_on : (ws other : List TypeWord) (rest following : Kinds) → IsMarked rest → words_text other rest ≡ words_text ws following
     → (more : List TypeWord) × (other ≡ ws ++ more) × (words_text more rest ≡ following)
 words_go_on [] other rest following m same = (other, refl, same)
@@ -128,7 +128,7 @@ bounds_first_punctuator (More x xs) after m more same e = cc
 bounds_no_star : (bs : WrittenList) (after more : Kinds) → closed_bounds_text bs after ≡ token.Punctuator punctuator.Star ∷ more → ⊥
 bounds_no_star bs after more same = bounds_first_punctuator bs after punctuator.Star more same refl
 
--- pointers that begin so continue with others
+-- pointers with this beginning continue with others
 pointers_go_on : (ps other : List PointerWord) (bs : WrittenList) (after following : Kinds)
     → pointers_text other (closed_bounds_text bs after) ≡ pointers_text ps following
     → (more : List PointerWord) × (other ≡ ps ++ more) × (pointers_text more (closed_bounds_text bs after) ≡ following)
@@ -144,7 +144,7 @@ pointers_go_on (pointer.Const ∷ ps) (pointer.Const ∷ qs) bs after following 
 pointers_go_on (pointer.Star ∷ ps) (pointer.Const ∷ qs) bs after following same = absurd cc
 pointers_go_on (pointer.Const ∷ ps) (pointer.Star ∷ qs) bs after following same = absurd cc
 
--- what stands after the words and the pointers of a type adds no word and no pointer to them
+-- what follows the words and the pointers of a type adds no word and no pointer to them
 pub record IsQuiet (names : Names) (ws : List TypeWord) (ps : List PointerWord) (following : Kinds) : Type 0 where
   pub no_star : (more : Kinds) → following ≡ token.Punctuator punctuator.Star ∷ more → ⊥
   pub no_const : (more : Kinds) → following ≡ token.Keyword keyword.Const ∷ more → ⊥
@@ -160,7 +160,7 @@ bounds_quiet names ws ps bs after = record {
       let s : token.Punctuator m.punctuator ∷ m.others ≡ first_of_word one ∷ more = sym m.are ∙ e in absurd (word_no_punctuator one m.punctuator cc);
 }
 
--- the words of a type that begins so are all there
+-- these are all words of a type with this beginning
 words_all : (names : Names) (ws other : List TypeWord) (ps : List PointerWord) (rest following : Kinds) → is_pointer ps ≡ true
     → IsQuiet names ws ps following → is_type names other ≡ true → (more : List TypeWord) → other ≡ ws ++ more
     → words_text more rest ≡ pointers_text ps following → (other ≡ ws) × (rest ≡ pointers_text ps following)

@@ -25,7 +25,7 @@ use Rattle.cs_expr_parser.specs.Words.{first_of_word, IsStuck, IsUnusable, NoWor
 use Rattle.cs_expr_parser.proofs.Closings.{close_parenthesis}
 use Rattle.cs_expr_parser.proofs.TypesInside.{words_go_on, word_first, IsMarked, pointers_marked, word_no_punctuator}
 
--- words of a type and another word that names a type, or a name that is none, name no type
+-- the words of a type, followed by another word that names a type or by an unknown name, name no type
 whole_joins : (names : Names) (first : TypeWord) (others : List TypeWord) (one : TypeWord) (more : List TypeWord) → is_integer_word one ≡ false
     → names_type names ((first ∷ others) ++ one ∷ more) ≡ false
 whole_joins names word.Const others one more i = and_left false (fit_together ((word.Const ∷ others) ++ one ∷ more)) refl
@@ -48,7 +48,7 @@ unknown_alone : (names : Names) (name : List ℕ) (more : List TypeWord) → is_
 unknown_alone names name [] k = k
 unknown_alone names name (m ∷ more) k = refl
 
--- an unknown name makes no type
+-- no type contains an unknown name
 unknown_name : (names : Names) (name : List ℕ) (ws more : List TypeWord) → is_among names name ≡ false
     → names_type names (ws ++ word.Typedef name ∷ more) ≡ false
 unknown_name names name [] more k = unknown_alone names name more k
@@ -58,7 +58,7 @@ type_of_more : (names : Names) (ws : List TypeWord) (one : TypeWord) (more : Lis
     → is_type names (ws ++ one ∷ more) ≡ names_type names (named_by ws ++ one ∷ named_by more)
 type_of_more names ws one more n = ap (names_type names) (named_more ws (one ∷ more) ∙ ap (λ (x : List TypeWord). named_by ws ++ x) n)
 
--- where the words name a type, no other whole type joins them
+-- if the words name a type, no other whole type can follow
 named_joins : (names : Names) (so_far : TypeSoFar) (ws : List TypeWord) (one : TypeWord) (more : List TypeWord) → names_some so_far ≡ true
     → Describes names so_far ws → is_integer_word one ≡ false → named_by (one ∷ more) ≡ one ∷ named_by more
     → is_type names (ws ++ one ∷ more) ≡ false
@@ -81,7 +81,7 @@ unusable names so_far ws word.Const more d u = absurd u
 unusable names so_far ws word.Void more d u = absurd u
 unusable names so_far ws (word.Integer k) more d u = absurd u
 
--- where no word stands, the words are stuck
+-- if the next token isn't a word, no type continues
 pub no_word_stuck : (names : Names) (so_far : TypeSoFar) (ws : List TypeWord) (next : TokenKind) → Describes names so_far ws → NoWord names so_far next
     → IsStuck names ws next
 no_word_stuck names so_far ws next d n one more e = unusable names so_far ws one more d (n one e)
@@ -106,7 +106,7 @@ not_type_step names ws next other rest following none stuck is near (w ∷ more)
           both_ways (is_type names other) (ap (is_type names) o ∙ stuck w more e) is
     ]
 
--- words that name nothing, and no word that continues with them
+-- words that name nothing, and that no word continues
 pub not_type_refused : (names : Names) (limit : ℕ) (ws : List TypeWord) (next : TokenKind) → named_by ws ≡ [] → IsStuck names ws next
     → Refused (Types names) limit (words_text ws []) next false
 not_type_refused names limit ws next none stuck = record {

@@ -24,7 +24,7 @@ use Rattle.cs_grammar.specs.Phrases.{IsPhrase, IsWell}
 use Rattle.cs_grammar.specs.FirstTokens.{begins_primary, begins_expression, begins_type, is_sizeof, keyword_begins_type}
 use Rattle.cs_grammar.proofs.Levels.{infix_levels}
 
--- tokens begin with one that passes a test
+-- the first of the tokens passes a test
 pub record BeginsWith (test : TokenKind → Bool) (tokens : Kinds) : Type 0 where
   pub first : TokenKind
   pub others : Kinds
@@ -125,7 +125,7 @@ postfix_begins names (Choice t o e) after is = absurd (omega (arith, is.0))
 postfix_begins names (Assign op l r) after is = absurd (omega (arith, is.0))
 postfix_begins names (Comma l r) after is = absurd (omega (arith, is.0))
 
--- an expression after an opening parenthesis, which a unary expression begins with
+-- a unary expression begins with an opening parenthesis and this expression
 pub record Inner (names : Names) (tokens : Kinds) (whole : Written) : Type 0 where
   pub inner : Written
   pub rest : Kinds
@@ -148,7 +148,7 @@ prefix_no_parenthesis prefix.Minus e = cc
 prefix_no_parenthesis prefix.Complement e = cc
 prefix_no_parenthesis prefix.Not e = cc
 
--- what stands after the opening parenthesis that a unary expression begins with
+-- what follows the opening parenthesis at the beginning of a unary expression
 pub unary_inner : (names : Names) (e : Written) (after tokens : Kinds) → IsPhrase names 14 e
     → text e after ≡ token.Punctuator punctuator.OpenParenthesis ∷ tokens → Inner names tokens e
 unary_inner names (Named name) after tokens is same = absurd cc

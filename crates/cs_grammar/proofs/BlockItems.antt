@@ -68,7 +68,7 @@ pub starts_no_colon : (tokens more : Kinds) → Starts tokens → tokens ≡ col
 starts_no_colon tokens more (with_star m e) same = let z = sym e ∙ same in cc
 starts_no_colon tokens more (with_name n m e) same = let z = sym e ∙ same in cc
 
--- objects may stand after what stands before declarators
+-- objects may follow specifiers
 pub block_joins : (names : Names) → Joins (BlockSpecs names) (Separated (Objects names) semicolon)
 block_joins names = λ c d after is are shut.
     starts_end_specs (with_commas declared_text d (semicolon ∷ after)) (objects_start names d (semicolon ∷ after) are.0 are.1)
@@ -164,7 +164,7 @@ pub declares_invert : (names : Names) (whole : Item) (after following : Kinds) �
 declares_invert names (Declares specs objects) after following is d same = ((specs, objects), refl, is, sym same)
 declares_invert names (Does s) after following is d same = absurd (no_statement names s after following is d same)
 
--- a declaration as what stands in a block
+-- a declaration as an item of a block
 abbrev pub declares_single : (names : Names)
     → Single (BlockItems names) (BlockDeclarations names) 1 [] (λ part. Declares part.0 part.1) (IsDeclaration names)
 declares_single names = record {
@@ -210,7 +210,7 @@ pub declared_no_colon : (names : Names) (ws : List TypeWord) (rest : Kinds) (fir
 declared_no_colon names [] rest first more type s same = false≢true type
 declared_no_colon names (w ∷ ws) rest first more type s same = second_no_colon w (words_text ws rest) first more (λ m e. words_no_colon ws rest m s e) same
 
--- the first token begins no type, or a colon stands after it
+-- the first token begins no type, or a colon follows it
 abbrev pub IsStatement : Names → Kinds → Type 0
 IsStatement names tokens = (first : TokenKind) (more : Kinds) → tokens ≡ first ∷ more
     → (begins_type names first ≡ false) ⊎ ((m : Kinds) × (more ≡ colon ∷ m))
@@ -235,7 +235,7 @@ pub does_invert : (names : Names) (whole : Item) (after following : Kinds) → I
 does_invert names (Does s) after following is st same = (s, refl, is, sym same)
 does_invert names (Declares specs objects) after following is st same = absurd (no_declaration names specs objects after following is.0 is.1.0 is.1.1 st same)
 
--- a statement as what stands in a block
+-- a statement as an item of a block
 abbrev pub does_single : (names : Names) → Single (BlockItems names) (Sentences names) 0 [] Does (IsStatement names)
 does_single names = record {
   production = record {
@@ -254,7 +254,7 @@ no_else_first [] none = tt
 no_else_first (token.Keyword keyword.Else ∷ x) none = none x refl
 no_else_first _ none = tt
 
--- no `else` begins what stands in a block
+-- no item of a block begins with `else`
 pub items_no_else : (names : Names) (items : Items) (after : Kinds) → AreItems names items → HasNoElse (items_text items (close_brace ∷ after))
 items_no_else names NoItem after are = tt
 items_no_else names (MoreItems i is) after are =
@@ -271,7 +271,7 @@ item_form names (MoreItems i is) are = inr (i, is, refl, are.0, are.1)
 pub item_no_brace : (names : Names) (i : Item) (x after : Kinds) → IsItem names i → item_text i x ≡ close_brace ∷ after → ⊥
 item_no_brace names i x after is same = false≢true (first_passes (begins_item names) (item_text i x) close_brace after (item_begins names i x is) same)
 
--- what stands in a block is a row
+-- the items of a block are a list
 abbrev pub block_listing : (names : Names) → Listing (BlockRows names) (BlockItems names)
 block_listing names = record {
   none = NoItem;
@@ -323,11 +323,11 @@ none_is : (names : Names) (other : Items) (after following : Kinds) → AreItems
 none_is names NoItem after following are same = (refl, cc)
 none_is names (MoreItems i is) after following are same = absurd (item_no_brace names i (items_text is (close_brace ∷ after)) following are.0 same)
 
--- the closing brace of a block stands there
+-- the next token is the closing brace of a block
 pub block_end : (names : Names) (limit : ℕ) → Exactly (BlockRows names) limit NoItem
 block_end names limit = record { is_phrase = tt; low = omega arith; exact = λ other after following is same. none_is names other after following is same }
 
--- what stands in a `switch`
+-- the items of a `switch`: none begins with `else`
 pub switch_no_else : (names : Names) (items : SwitchItems) (after : Kinds) → AreSwitchItems names items
     → HasNoElse (switch_text items (close_brace ∷ after))
 switch_no_else names NoSwitchItem after are = tt
@@ -399,7 +399,7 @@ no_part_is : (names : Names) (other : SwitchItems) (after following : Kinds) →
 no_part_is names NoSwitchItem after following are same = (refl, cc)
 no_part_is names (MoreSwitchItems i is) after following are same = absurd (part_no_brace names i (switch_text is (close_brace ∷ after)) following are.0 same)
 
--- the closing brace of a `switch` stands there
+-- the next token is the closing brace of a `switch`
 pub switch_end : (names : Names) (limit : ℕ) → Exactly (SwitchRows names) limit NoSwitchItem
 switch_end names limit = record { is_phrase = tt; low = omega arith; exact = λ other after following is same. no_part_is names other after following is same }
 
@@ -452,7 +452,7 @@ default_single names = record {
   least = closed_least Ended colon ended_least;
 }
 
--- neither `case` nor `default` stands first
+-- the first token is neither `case` nor `default`
 abbrev pub HasNoCase : Kinds → Type 0
 HasNoCase tokens = (first : TokenKind) (more : Kinds) → tokens ≡ first ∷ more → is_case first ≡ false
 
@@ -469,7 +469,7 @@ item_some names (Declares specs objects) is = omega arith
 abbrev pub items_least : (names : Names) → Least (BlockItems names)
 items_least names = record { tree = Does Nothing; is_phrase = tt; below = λ other is. item_some names other is }
 
--- what any block may have
+-- an item that any block may have
 abbrev pub inside_single : (names : Names) → Single (SwitchParts names) (BlockItems names) 0 [] Inside HasNoCase
 inside_single names = record {
   production = record {

@@ -79,7 +79,7 @@ constant_single names n free = record {
   least = constant_values_least names;
 }
 
--- no name of a constant stands there
+-- the next token can't be the name of a constant
 pub constant_missing : (names : Names) (limit : ℕ) (next : TokenKind) → ((n : List ℕ) → next ≡ token.Name n → IsFree names n → ⊥)
     → Refused (Constants names) limit [] next false
 constant_missing names limit next none =
@@ -91,7 +91,7 @@ lone_only : (next : TokenKind) → (next ≡ equal_token → ⊥) → (other : O
 lone_only next none None after following near same = (refl, same)
 lone_only next none (Some e) after following near same = absurd (near_other equal_token next following (text e after) none near same)
 
--- no `=` stands after the name of a constant
+-- no `=` follows the name of a constant
 pub constant_alone : (names : Names) (limit : ℕ) (next : TokenKind) → (next ≡ equal_token → ⊥) → Took (ConstantValues names) limit None next false
 constant_alone names limit next none = record {
   is_phrase = tt;
@@ -107,7 +107,7 @@ full_only names None after following near same = inl (refl, same)
 full_only names (Some e) after following near same = let h = expression_height e in
     inr (record { reported = refl; high = omega (arith, h); onward = λ none. let z = same ∙ none in cc })
 
--- an `=` stands there, and the limit doesn't allow a value
+-- the next token is `=`, and the limit doesn't allow a value
 pub constant_full : (names : Names) → Took (ConstantValues names) 0 None equal_token true
 constant_full names = record {
   is_phrase = tt;
@@ -201,7 +201,7 @@ tag_same (Some t) (Some u) x y same = let k : u ≡ t = cc in (ap (λ (n : List 
 tag_same None (Some u) x y same = absurd cc
 tag_same (Some t) None x y same = absurd cc
 
--- tokens after `struct` or `enum` and a brace, where a word with a tag stands
+-- the tokens after `struct` or `enum` and a brace aren't those after a tag
 no_tag_brace : (tag : Option (List ℕ)) (t : List ℕ) (x y : Kinds) → HasNoOpenBrace x → token.Name t ∷ x ≡ name_text tag (open_brace ∷ y) → ⊥
 no_tag_brace None t x y quiet same = cc
 no_tag_brace (Some u) t x y quiet same = let k : x ≡ open_brace ∷ y = cc in subst HasNoOpenBrace k quiet
@@ -244,7 +244,7 @@ struct_is names tag (Plain w) x following has quiet same = absurd (struct_word w
 struct_is names tag Static x following has quiet same = absurd cc
 struct_is names tag (EnumBody tag' constants comma) x following has quiet same = absurd cc
 
--- constants and perhaps a comma
+-- constants, and whether a comma follows them
 abbrev pub ConstantRow : Type 0
 ConstantRow = List Constant × Bool
 
@@ -389,7 +389,7 @@ tagged_begins : (names : Names) (limit : ℕ) → 1 ≤ limit → (is_struct : B
 tagged_begins names limit some true = record { phrase = Plain (word.Struct []); more = token.Name [] ∷ []; is_phrase = tt; low = some; spelled = refl }
 tagged_begins names limit some false = record { phrase = Plain (word.Enum []); more = token.Name [] ∷ []; is_phrase = tt; low = some; spelled = refl }
 
--- neither a tag nor a brace stands after `struct` or `enum`
+-- neither a tag nor a brace follows `struct` or `enum`
 pub tag_missing : (names : Names) (limit : ℕ) → 1 ≤ limit → (is_struct : Bool) (next : TokenKind) → ((n : List ℕ) → next ≡ token.Name n → ⊥)
     → (next ≡ open_brace → ⊥) → Refused (SpecElements names) limit (tag_word is_struct ∷ []) next false
 tag_missing names limit some is_struct next no_name no_brace = record {
@@ -398,7 +398,7 @@ tag_missing names limit some is_struct next no_name no_brace = record {
   further = λ reported. absurd (false≢true reported);
 }
 
--- members after what stands before them
+-- what follows the declarators of members of one type, with their semicolon, may be cut off
 pub member_list_law : (names : Names) → Lawful (Separated (MemberDeclarators names) semicolon)
 member_list_law names = separated_law (MemberDeclarators names) semicolon (declarators_law (λ name. Unit {0}) names ⊥)
 
@@ -478,7 +478,7 @@ spec_no_punctuator (Plain (word.Enum tag)) m e = cc
 spec_no_punctuator (StructBody tag members) m e = cc
 spec_no_punctuator (EnumBody tag constants comma) m e = cc
 
--- no punctuator begins what stands before declarators
+-- no specifiers begin with a punctuator
 pub specs_no_punctuator : (names : Names) (specs : Specs) (x : Kinds) (m : Punctuator) (more : Kinds) → AreSpecs names specs
     → specs_text specs x ≡ token.Punctuator m ∷ more → ⊥
 specs_no_punctuator names NoSpec x m more is same = false≢true is.0
@@ -496,7 +496,7 @@ member_form names (MoreMembers specs declarators others) are = inr ((specs, decl
 abbrev pub more_members : MemberGroup → Members → Members
 more_members group rest = MoreMembers group.0 group.1 rest
 
--- members are a row
+-- members are a list
 abbrev pub member_listing : (names : Names) → Listing (MemberRows names) (MemberGroups names)
 member_listing names = record {
   none = NoMember;
@@ -554,7 +554,7 @@ no_member_is names (MoreMembers specs declarators others) after following are sa
     absurd (specs_no_punctuator names specs (with_commas declarator_text declarators (semicolon ∷ members_text others (close_brace ∷ after)))
     punctuator.CloseBrace following (are.0, are.1) same)
 
--- the closing brace of a struct stands there
+-- the next token is the closing brace of a struct
 pub members_end : (names : Names) (limit : ℕ) → Exactly (MemberRows names) limit NoMember
 members_end names limit = record {
   is_phrase = tt;

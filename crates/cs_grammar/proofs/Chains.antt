@@ -58,7 +58,7 @@ suffix_phrase names level whole after left following (stepped s l w b) is = let 
 suffix_phrase names level whole after left following (joined op r l w b) is = let p = subst (IsPhrase names level) w is in (omega (arith, p.1.0), p.1.1)
 suffix_phrase names level whole after left following (continued s l w b) is = let p = subst (IsPhrase names level) w is in (omega arith, p.1.0)
 
--- what holds of the tree with one suffix, and of each with one more, holds of all with some
+-- what holds for the tree with one suffix, and is kept by each further suffix, holds for all with at least one
 pub stem_fold : (names : Names) (level : ℕ) (left : Written) (following : Kinds) (C : Written → Kinds → Type 0)
     → ((whole : Written) (after : Kinds) → IsPhrase names level whole → join_of after ≤ suc level → Suffix level whole after left following
     → C whole after) → ((whole : Written) (after : Kinds) (smaller : Written) (rest : Kinds) → Suffix level whole after smaller rest → C smaller rest
@@ -79,7 +79,7 @@ over_up : (names : Names) (level tight limit : ℕ) (deep : Bool) (whole smaller
 over_up names level tight limit deep whole smaller following less over =
     record { reported = over.reported; high = omega (arith, over.high); onward = over.onward }
 
--- a tighter phrase that begins so is the first operand
+-- a tighter phrase with this beginning is the first operand
 tight : (names : Names) (level limit : ℕ) (e : Written) (next : TokenKind) (deep : Bool) → Took (Expressions names (suc level)) limit e next deep
     → (other : Written) (after following : Kinds) → IsPhrase names level other → suc level ≤ level_of other → join_of after ≤ suc level
     → Near next following → text other after ≡ text e following
@@ -90,7 +90,7 @@ tight names level limit e next deep t other after following is bound shut near s
       | inr over ↦ inr (record { reported = over.reported; high = over.high; onward = over.onward })
     ]
 
--- a phrase with a suffix is of this level, or tighter
+-- a phrase with this beginning has a suffix of this level, or is tighter
 either : (names : Names) (level limit : ℕ) (e : Written) (next : TokenKind) (deep : Bool) → Took (Expressions names (suc level)) limit e next deep
     → (other : Written) (after following : Kinds) → IsPhrase names level other → join_of after ≤ suc level → Near next following
     → text other after ≡ text e following → (smaller : Written) (rest : Kinds) → (level_of other ≡ level → Suffix level other after smaller rest)
@@ -110,7 +110,7 @@ either names level limit e next deep t other after following is shut near same s
     ]
 
 mutual
-  -- the first operand begins every phrase that begins so
+  -- every phrase with this beginning has the first operand as its stem
   pub head_stems : (names : Names) (level limit : ℕ) (e : Written) (next : TokenKind) (deep : Bool) → IsChain level
       → Took (Expressions names (suc level)) limit e next deep → (other : Written) (after following : Kinds) → IsPhrase names level other
       → join_of after ≤ suc level → Near next following → text other after ≡ text e following
@@ -173,7 +173,7 @@ mutual
       (λ x. continued r (sym x) refl refl)
       (λ p s. head_stems names level limit e next deep c t l (token.Punctuator punctuator.Comma ∷ text r after) following p s near same)
 
--- a chain of the first operand alone
+-- a chain that is only the first operand
 pub grows_head : (names : Names) (level limit : ℕ) (e : Written) (next : TokenKind) (deep : Bool) → IsChain level
     → Took (Expressions names (suc level)) limit e next deep → Grows names level limit e next deep
 grows_head names level limit e next deep c t = record {

@@ -26,7 +26,7 @@ use Rattle.cs_grammar.proofs.BlockItems.{BlockDeclarations, block_joins, block_s
 use Rattle.cs_grammar.proofs.Bodies.{file_specs_law}
 use Rattle.cs_grammar.proofs.FileRules.{external_joins, rests_law, rests_least, function_of, function_tail, ends_law, end_semicolon, end_wrong, body_single}
 
--- a declaration inside a block: its type was refused
+-- a declaration inside a block: its specifiers were refused
 pub block_type_refused : (names : Names) (limit : ℕ) → 1 ≤ limit
     → (front : Kinds) (next : TokenKind) (deep : Bool) → Refused (BlockSpecs names) limit front next deep
     → Refused (BlockDeclarations names) limit front next deep
@@ -53,18 +53,18 @@ block_declaration_took names limit some specs first t list next starts t' =
     then_took (BlockSpecs names) (Separated (ObjectClass names) semicolon) limit (block_specs_law names) (object_list_law names) (block_joins names)
     (object_list_least names) (omega (arith, some)) specs first false t (λ reported. absurd (false≢true reported)) list next false starts t'
 
--- a part of a file and what stands after its type
+-- an external declaration, as its specifiers and what follows them
 abbrev pub TypedParts : Names → Class
 TypedParts names = Sequence (FileSpecs names) (ExternalRests names)
 
--- its type was refused
+-- its specifiers were refused
 pub file_type_refused : (names : Names) (limit : ℕ) (front : Kinds) (next : TokenKind) (deep : Bool) → Refused (FileSpecs names) limit front next deep
     → Refused (TypedParts names) limit front next deep
 file_type_refused names limit front next deep r =
     first_refused (FileSpecs names) (ExternalRests names) limit (file_specs_law names) (external_joins names) (rests_least names) (omega arith) front next deep
     r
 
--- what stands after its type was refused
+-- what follows its specifiers was refused
 pub file_rest_refused : (names : Names) (limit : ℕ) (specs : Specs) (first : TokenKind) → Took (FileSpecs names) limit specs first false
     → (front : Kinds) (next : TokenKind) (deep : Bool) → first_or front next ≡ first → Refused (ExternalRests names) limit front next deep
     → Refused (TypedParts names) limit (specs_text specs [] ++ front) next deep
@@ -80,7 +80,7 @@ file_part_took names limit specs first t rest next starts t' =
     then_took (FileSpecs names) (ExternalRests names) limit (file_specs_law names) (rests_law names) (external_joins names) (rests_least names) (omega arith)
     specs first false t (λ reported. absurd (false≢true reported)) rest next false starts t'
 
--- a function's head was taken, and what stands after it refused
+-- a function's head was taken, and what follows it refused
 pub function_refused : (names : Names) (limit : ℕ) (head : Head) → Exactly (Heads names) limit head
     → (front : Kinds) (next : TokenKind) (deep : Bool) → Refused (FunctionEnds names head) limit front next deep
     → Refused (ExternalRests names) limit (head_text head [] ++ front) next deep
@@ -113,7 +113,7 @@ definition_took names limit inner less head named e body next t =
     (function_tail names limit head e) (Some body) next false (λ following near. tt)
     (single_took (body_single names head named) limit inner (less, omega arith) body next false (λ following near. tt) t)
 
--- a part of a file that was taken before every token is determined by its tokens
+-- an external declaration that was taken before every token is determined by its tokens
 pub external_exact : (names : Names) (limit : ℕ) (e : External) → ((next : TokenKind) → Took (Externals names) limit e next false)
     → Exactly (Externals names) limit e
 external_exact names limit e took = took_exact (Externals names) limit e took (λ other after. tt) semicolon

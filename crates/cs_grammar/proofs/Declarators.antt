@@ -35,7 +35,7 @@ bracket_form names MayLack (b ∷ bs) is = inr (b, bs, refl, is.0, is.1)
 pub bracket_apart : (after : Kinds) (more : Kinds) → HasNoBracket after → token.Punctuator punctuator.OpenBracket ∷ more ≡ after → ⊥
 bracket_apart after more shut same = subst HasNoBracket (sym same) shut
 
--- bounds are a row
+-- bounds are a list
 abbrev pub bracket_listing : (names : Names) (MayLack : Type 0) → Listing (Brackets names MayLack) (Bounds names MayLack)
 bracket_listing names MayLack = record {
   none = [];
@@ -59,7 +59,7 @@ brackets_law names MayLack = brackets_append
 abbrev pub brackets_least : (names : Names) (MayLack : Type 0) → Least (Brackets names MayLack)
 brackets_least names MayLack = record { tree = []; is_phrase = tt; below = λ other is. omega arith }
 
--- bounds were taken, and others may stand after them
+-- bounds were taken, and others may follow
 abbrev pub BracketsSoFar : Names → Type 0 → ℕ → List (Option Written) → Type 0
 BracketsSoFar names MayLack limit done =
     Tail (Brackets names MayLack) (Brackets names MayLack) limit limit (brackets_text done []) (λ rest. done ++ rest) (λ rest. Unit {0})
@@ -102,7 +102,7 @@ exact_tail_row names MayLack limit b x =
       rises = λ part high. omega (arith, high);
     }
 
--- one bound more was taken
+-- one more bound was taken
 pub brackets_more : (names : Names) (MayLack : Type 0) (limit : ℕ) (done : List (Option Written)) (b : Option Written)
     → BracketsSoFar names MayLack limit done → Exactly (Bounds names MayLack) limit b → BracketsSoFar names MayLack limit (done ++ b ∷ [])
 brackets_more names MayLack limit done b so_far x =
@@ -132,7 +132,7 @@ end_only names MayLack next other' (b ∷ bs) after following near same =
     absurd (near_other (token.Punctuator punctuator.OpenBracket) next following
     (some_text b (token.Punctuator punctuator.CloseBracket ∷ brackets_text bs after)) other' near same)
 
--- no bound stands there
+-- no bound comes next
 pub brackets_end : (names : Names) (MayLack : Type 0) (limit : ℕ) (next : TokenKind) → (next ≡ token.Punctuator punctuator.OpenBracket → ⊥)
     → Took (Brackets names MayLack) limit [] next false
 brackets_end names MayLack limit next other = record {
@@ -152,7 +152,7 @@ full_only names (Some e ∷ bs) after following is near same =
     let h = expression_height e in
     inr (record { reported = refl; high = omega (arith, h); onward = λ none. let z = same ∙ none in cc })
 
--- the limit doesn't allow a bound where one may not lack
+-- the limit doesn't allow a bound, and an empty bound isn't allowed
 pub brackets_full : (names : Names) (next : TokenKind) → Took (Brackets names ⊥) 0 [] (token.Punctuator punctuator.OpenBracket) true
 brackets_full names next = record {
   is_phrase = tt;
@@ -192,7 +192,7 @@ pointers_name (pointer.Const ∷ ps) (pointer.Const ∷ qs) n m x y same =
     let f = pointers_name ps qs n m x y cc in
     (ap (λ (r : List PointerWord). pointer.Const ∷ r) f.0, f.1, f.2)
 
--- a declarator of its parts
+-- the declarator with these parts
 abbrev pub declarator_of : List PointerWord → List ℕ → List (Option Written) → Declarator
 declarator_of ps n bs = record { pointers = ps; name = n; bounds = bs }
 
@@ -209,7 +209,7 @@ declarator_invert IsName names MayLack ps n whole after following is same =
       sym f.2,
     )
 
--- the pointers and the name of a declarator were taken: what is left are its bounds
+-- the pointers and the name of a declarator were taken: its bounds remain
 abbrev pub declarator_single : (IsName : List ℕ → Type 0) (names : Names) (MayLack : Type 0) (ps : List PointerWord) (n : List ℕ)
     → IsTrue (is_pointer ps) → IsName n
     → Single (Declarators IsName names MayLack) (Brackets names MayLack) 1 (pointers_text ps (token.Name n ∷ [])) (declarator_of ps n) (λ rest. Unit {0})
@@ -236,7 +236,7 @@ declarators_least IsName names MayLack n i = record {
   below = λ other is. omega arith;
 }
 
--- what stands after the pointers is neither a pointer's word nor such a name
+-- what follows the pointers is neither one of their tokens nor such a name
 pub record IsNoName (IsName : List ℕ → Type 0) (next : TokenKind) : Type 0 where
   pub no_star : next ≡ token.Punctuator punctuator.Star → ⊥
   pub no_const : next ≡ token.Keyword keyword.Const → ⊥
@@ -267,7 +267,7 @@ name_never IsName next none (pointer.Const ∷ ps) (pointer.Star ∷ qs) n x fol
 name_never IsName next none (pointer.Star ∷ ps) (pointer.Star ∷ qs) n x following i near same = name_never IsName next none ps qs n x following i near cc
 name_never IsName next none (pointer.Const ∷ ps) (pointer.Const ∷ qs) n x following i near same = name_never IsName next none ps qs n x following i near cc
 
--- no name stands after the pointers
+-- no name follows the pointers
 pub name_missing : (IsName : List ℕ → Type 0) (names : Names) (MayLack : Type 0) (limit : ℕ) (some : List ℕ) → IsName some → 1 ≤ limit
     → (ps : List PointerWord) → IsTrue (is_pointer ps) → (next : TokenKind) → IsNoName IsName next
     → Refused (Declarators IsName names MayLack) limit (pointers_text ps []) next false
@@ -285,7 +285,7 @@ name_missing IsName names MayLack limit some i fits ps p next none = record {
   further = λ reported. absurd (false≢true reported);
 }
 
--- what stands after the bracket of a bound was refused
+-- what follows the bracket of a bound was refused
 pub bound_refused : (names : Names) (MayLack : Type 0) (limit : ℕ) → (least : Least (ClosedSome names 2 MayLack (token.Punctuator punctuator.CloseBracket)))
     → (ClosedSome names 2 MayLack (token.Punctuator punctuator.CloseBracket)).tall least.tree ≤ limit
     → (front : Kinds) (next : TokenKind) (deep : Bool)

@@ -26,7 +26,7 @@ use Rattle.cs_grammar.proofs.InitialValues.{value_height, values_law}
 abbrev pub equal_token : TokenKind
 equal_token = token.Punctuator punctuator.Equal
 
--- an object of its parts
+-- the object with these parts
 abbrev pub declared_of : Declarator → Option Initial → Declared
 declared_of d o = record { declarator = d; initial = o }
 
@@ -62,7 +62,7 @@ object_row names = record {
   differs = semicolon_differs;
 }
 
--- what ends an object is no bracket
+-- what ends an object isn't a bracket
 pub ends_no_bracket : (after : Kinds) → Follows ends_declared after → HasNoBracket after
 ends_no_bracket [] f = tt
 ends_no_bracket (token.Punctuator punctuator.OpenBracket ∷ x) f = absurd (false≢true f)
@@ -113,7 +113,7 @@ declared_only names limit d next deep t other c (Some i) after following is shut
       | inr over ↦ inr (record { reported = over.reported; high = let h = over.high in omega (arith, h); onward = over.onward })
     ]
 
--- the declarator was taken, and no `=` stands after it
+-- the declarator was taken, and no `=` follows it
 pub declared_alone : (names : Names) (limit : ℕ) (d : Declarator) (next : TokenKind) (deep : Bool) → Took (ObjectDeclarators names) limit d next deep
     → (next ≡ equal_token → ⊥) → Took (Objects names) limit (declared_of d None) next deep
 declared_alone names limit d next deep t other = record {
@@ -144,7 +144,7 @@ full_only names limit d deep t full c (Some i) after following is shut near same
       | inr over ↦ absurd (t.joined over.reported [] tt)
     ]
 
--- the declarator was taken, an `=` stands after it, and the limit doesn't allow a value
+-- the declarator was taken, an `=` follows it, and the limit doesn't allow a value
 pub declared_full : (names : Names) (limit : ℕ) (d : Declarator) (deep : Bool) → Took (ObjectDeclarators names) limit d equal_token deep
     → limit < 1 + declarator_height d → Took (Objects names) limit (declared_of d None) equal_token true
 declared_full names limit d deep t full = record {
@@ -182,7 +182,7 @@ value_invert names limit d deep t c (Some i) after following is has shut same =
       | inr over ↦ absurd (t.joined over.reported [] tt)
     ]
 
--- the declarator was taken, and an `=` stands after it: what is left is the value
+-- the declarator was taken, and an `=` follows it: the value remains
 pub value_tail : (names : Names) (limit inner : ℕ) → limit ≡ 1 + inner
     → (d : Declarator) (deep : Bool) → Took (ObjectDeclarators names) limit d equal_token deep → declarator_height d ≤ inner
     → Tail (Objects names) (Values names) limit inner (declarator_text d (equal_token ∷ [])) (λ i. declared_of d (Some i)) (λ rest. Unit {0})

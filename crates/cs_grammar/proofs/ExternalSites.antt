@@ -29,7 +29,7 @@ use Rattle.cs_grammar.proofs.Declarators.{pointers_name}
 use Rattle.cs_grammar.proofs.SpecRows.{first_of, spec_starts}
 use Rattle.cs_grammar.proofs.FileRules.{starts_semicolon, no_objects, HasNoTypedef, ExternalParts, external_single, objects_single, specs_has}
 
--- the token begins what stands before declarators outside blocks, if a name is a typedef name
+-- the token begins specifiers outside blocks, if a name is a typedef name
 abbrev pub begins_spec : TokenKind → Bool
 begins_spec (token.Name name) = true
 begins_spec (token.Keyword keyword.Static) = true
@@ -70,13 +70,13 @@ specs_first names (MoreSpecs s others) x t more is same =
     let k : first_of s ≡ t = cc in
     ap begins_spec (sym k) ∙ first_begins s
 
--- nothing before declarators begins with the token
+-- no specifiers begin with the token
 pub specs_not : (names : Names) (limit : ℕ) (next : TokenKind) → begins_spec next ≡ false → Refused (FileSpecs names) limit [] next false
 specs_not names limit next none =
     none_refused (FileSpecs names) limit next (specs_has names)
     (λ s after more is same. false≢true (sym none ∙ specs_first names s after next more is same))
 
--- the tokens of a part of a file that was refused don't begin with `typedef`
+-- the tokens of an external declaration that was refused don't begin with `typedef`
 typedef_fits : (front : Kinds) (next : TokenKind) → (first_or front next ≡ token.Keyword keyword.Typedef → ⊥)
     → (following : Kinds) → Near next following → HasNoTypedef (front ++ following)
 typedef_fits [] next none following near more same =
@@ -86,7 +86,7 @@ typedef_fits [] next none following near more same =
     ]
 typedef_fits (f ∷ fs) next none following near more same = none cc
 
--- a part of a file that is no typedef was refused
+-- an external declaration that isn't a typedef was refused
 pub external_refused : (names : Names) (limit inner : ℕ) → limit ≡ 1 + inner → 1 ≤ inner
     → (front : Kinds) (next : TokenKind) (deep : Bool) → (first_or front next ≡ token.Keyword keyword.Typedef → ⊥)
     → Refused (Sequence (FileSpecs names) (ExternalRests names)) inner front next deep → Refused (Externals names) limit front next deep
@@ -96,7 +96,7 @@ external_refused names limit inner less some front next deep none r =
 specs_no_typedef : (names : Names) (specs : Specs) (x : Kinds) → AreSpecs names specs → HasNoTypedef (specs_text specs x)
 specs_no_typedef names specs x is more same = false≢true (specs_first names specs x (token.Keyword keyword.Typedef) more is same)
 
--- a part of a file that is no typedef was taken
+-- an external declaration that isn't a typedef was taken
 pub external_took : (names : Names) (limit inner : ℕ) → limit ≡ 1 + inner → 1 ≤ inner
     → (part : ExternalParts) (next : TokenKind) (deep : Bool) → Took (Sequence (FileSpecs names) (ExternalRests names)) inner part next deep
     → Took (Externals names) limit (external_from part.0 part.1) next deep

@@ -20,7 +20,7 @@ use Rattle.cs_grammar.specs.FileText.{items_text, switch_item_text, switch_text}
 use Rattle.cs_grammar.specs.FilePhrases.{plain_words, AreBlockSpecs, IsSentence, IsItem, IsSwitchItem}
 use Rattle.cs_grammar.proofs.Beginnings.{BeginsWith, expression_begins, type_begins}
 
--- plain words as what stands before declarators
+-- specifiers that are only words of a type
 abbrev pub specs_of : List TypeWord → Specs
 specs_of [] = NoSpec
 specs_of (w ∷ words) = MoreSpecs (Plain w) (specs_of words)
@@ -33,7 +33,7 @@ pub plain_again : (words : List TypeWord) → plain_words (specs_of words) ≡ S
 plain_again [] = refl
 plain_again (w ∷ words) = ap (λ (o : Option (List TypeWord)). option_map (λ ws. w ∷ ws) o) (plain_again words)
 
--- the words of what stands before declarators inside a block
+-- the words of the specifiers inside a block
 pub record PlainWords (names : Names) (specs : Specs) : Type 0 where
   pub words : List TypeWord
   pub are : specs ≡ specs_of words
@@ -65,12 +65,12 @@ block_words names specs is = plain_from names specs (plain_words specs) refl is
 pub plain_are : (names : Names) (words : List TypeWord) → is_type names words ≡ true → AreBlockSpecs names (specs_of words)
 plain_are names words type = subst (λ (o : Option (List TypeWord)). MatchOption o ⊥ (λ ws. IsTrue (is_type names ws))) (sym (plain_again words)) type
 
--- the tokens begin with one that passes a test, and so with one that passes another
+-- the first token passes a test, and so a wider one
 pub passes_too : (test test' : TokenKind → Bool) (tokens : Kinds) → ((t : TokenKind) → test t ≡ true → test' t ≡ true) → BeginsWith test tokens
     → BeginsWith test' tokens
 passes_too test test' tokens less b = record { first = b.first; others = b.others; are = b.are; passes = less b.first b.passes }
 
--- tokens that begin so aren't none, and their first token passes
+-- there is a first token, and it passes
 pub some_first : (test : TokenKind → Bool) (tokens : Kinds) → BeginsWith test tokens → tokens ≡ [] → ⊥
 some_first test tokens b none = let s : b.first ∷ b.others ≡ [] = sym b.are ∙ none in cc
 
@@ -90,7 +90,7 @@ keyword_too : (k : Keyword) → is_sizeof k ≡ true → keyword_begins_sentence
 keyword_too keyword.Sizeof e = refl
 keyword_too _ e = cc
 
--- what begins an expression begins a statement
+-- a token that begins an expression begins a statement
 pub expression_sentence : (names : Names) (t : TokenKind) → begins_expression names t ≡ true → begins_sentence t ≡ true
 expression_sentence names (token.Name name) e = refl
 expression_sentence names (token.Number n) e = refl
@@ -136,14 +136,14 @@ sentence_begins names (Return value) after is =
 sentence_begins names (Label name body) after is =
     begins_now begins_sentence (token.Name name) (token.Punctuator punctuator.Colon ∷ sentence_text body after) refl
 
--- the first token of what stands before declarators in a block
+-- the first token of the specifiers in a block
 pub block_specs_begin : (names : Names) (specs : Specs) (rest : Kinds) → AreBlockSpecs names specs → BeginsWith (begins_type names) (specs_text specs rest)
 block_specs_begin names specs rest is =
     let w = block_words names specs is in
     subst (BeginsWith (begins_type names)) (sym (ap (λ (s : Specs). specs_text s rest) w.are ∙ plain_text w.words rest))
     (type_begins names w.words rest w.type)
 
--- the first token of what stands in a block
+-- the first token of an item of a block
 pub item_begins : (names : Names) (i : Item) (after : Kinds) → IsItem names i → BeginsWith (begins_item names) (item_text i after)
 item_begins names (Declares specs objects) after is =
     passes_too (begins_type names) (begins_item names) (item_text (Declares specs objects) after) (λ t e. or_right (begins_sentence t) (begins_type names t) e)
@@ -152,7 +152,7 @@ item_begins names (Does s) after is =
     passes_too begins_sentence (begins_item names) (sentence_text s after) (λ t e. or_left (begins_sentence t) (begins_type names t) e)
     (sentence_begins names s after is)
 
--- the first token of what stands in a `switch`
+-- the first token of an item of a `switch`
 pub switch_part_begins : (names : Names) (i : SwitchItem) (after : Kinds) → IsSwitchItem names i
     → BeginsWith (begins_switch_part names) (switch_item_text i after)
 switch_part_begins names (Case value) after is =

@@ -52,11 +52,11 @@ grown_text = refl
 grown_roles : file_roles grown ≡ another ∷ another ∷ declared_name ∷ another ∷ another ∷ declared_name ∷ another ∷ []
 grown_roles = refl
 
--- `T x;` without the typedef before it
+-- `T x;` without the typedef
 unknown_type : IsFile [] (of_type_T ∷ []) → ⊥
 unknown_type is = false≢true is.0.0.0
 
--- `if ( 0 ) if ( 0 ) ; else ;` with the `else` at the nearest `if`, and at the other one: the same tokens, and one reading
+-- `if ( 0 ) if ( 0 ) ; else ;` with the `else` at the inner `if`, and at the outer one: the same tokens, only one of them a statement
 nearest : IsSentence [] (If nought (IfElse nought Nothing Nothing))
 nearest = ((omega arith, tt), ((omega arith, tt), refl, tt, tt))
 
@@ -67,7 +67,7 @@ same_tokens : (rest : Kinds) → sentence_text (IfElse nought (If nought Nothing
     ≡ sentence_text (If nought (IfElse nought Nothing Nothing)) rest
 same_tokens rest = refl
 
--- `void` alone is no parameter
+-- only `void` is not a parameter
 void_alone : AreParameters [] (ParameterList (lone_void ∷ [])) → ⊥
 void_alone are = are.1 refl
 
@@ -78,14 +78,14 @@ unnamed = record { pointers = []; name = f; parameters = ParameterList (record {
 unnamed_body : IsExternal [] (Definition int unnamed NoItem) → ⊥
 unnamed_body is = false≢true is.2.0
 
--- `static` stands outside blocks alone
+-- `static` is allowed only outside blocks
 static_outside : IsExternal [] (Objects (MoreSpecs Static int) (declared_of (declarator_of [] x []) None ∷ []))
 static_outside = ((refl, (tt, (tt, tt))), (tt, (record { declarator = record { pointers = refl; named = refl; bounds = tt }; initial = tt }, tt)))
 
 static_inside : AreBlockSpecs [] (MoreSpecs Static int) → ⊥
 static_inside are = are
 
--- `int (`: where a name may stand, a parenthesis is unsupported
+-- `int (`: where a name is allowed, a parenthesis is unsupported
 abbrev plain_x : List External
 plain_x = Objects int (declared_of (declarator_of [] x []) None ∷ []) ∷ []
 
@@ -101,7 +101,7 @@ parenthesis_out = record {
   there = refl;
 }
 
--- `int x = .`: where an initial value may begin, a dot is unsupported
+-- `int x = .`: where an initializer may begin, a dot is unsupported
 abbrev listed_x : List External
 listed_x = Objects int (declared_of (declarator_of [] x []) (Some (Listed (MoreItems (Single nought) NoMore) false)) ∷ []) ∷ []
 

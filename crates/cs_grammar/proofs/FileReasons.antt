@@ -17,13 +17,13 @@ use Rattle.cs_grammar.specs.FilePhrases.{IsFile}
 use Rattle.cs_grammar.specs.FileRefusals.{IsUnsupportedOfFile, IsFileReason}
 use Rattle.cs_grammar.proofs.FileRules.{FileRefused}
 
--- the keyword is unsupported at some places
+-- the keyword is unsupported at some positions
 abbrev pub is_placed_word : Keyword → Bool
 is_placed_word keyword.Static = true
 is_placed_word keyword.Typedef = true
 is_placed_word other = false
 
--- the punctuator is unsupported at some places, or anywhere
+-- the punctuator is unsupported at some positions, or everywhere
 abbrev pub is_placed_punctuator : Punctuator → Bool
 is_placed_punctuator punctuator.Ellipsis = true
 is_placed_punctuator punctuator.OpenBrace = true
@@ -33,7 +33,7 @@ is_placed_punctuator punctuator.Dot = true
 is_placed_punctuator punctuator.OpenBracket = true
 is_placed_punctuator other = false
 
--- the token is unsupported at some places, or anywhere
+-- the token is unsupported at some positions, or everywhere
 abbrev pub is_placed : TokenKind → Bool
 is_placed (token.Unsupported word) = true
 is_placed (token.Keyword word) = is_placed_word word
@@ -84,7 +84,7 @@ pub plain_reason : (limit : ℕ) (front : Kinds) (next : TokenKind) → FileRefu
     → IsFileReason front (Some next) reason.Syntax
 plain_reason limit front next r e = syntax_reason limit front next r (not_placed front next e)
 
--- an unsupported word, or the punctuator of three dots
+-- an unsupported word, or an ellipsis
 pub word_reason : (limit : ℕ) (front : Kinds) (w : Unsupported) → FileRefused limit front (token.Unsupported w) false
     → IsFileReason front (Some (token.Unsupported w)) reason.Unsupported
 word_reason limit front w r = unsupported_reason limit front (token.Unsupported w) r tt
@@ -93,6 +93,6 @@ pub dots_reason : (limit : ℕ) (front : Kinds) → FileRefused limit front (tok
     → IsFileReason front (Some (token.Punctuator punctuator.Ellipsis)) reason.Unsupported
 dots_reason limit front r = unsupported_reason limit front (token.Punctuator punctuator.Ellipsis) r tt
 
--- the tokens end, and no file has them alone
+-- the tokens end, and aren't those of a file
 pub end_reason : (front : Kinds) → ((file : List External) → IsFile [] file → file_text file ≡ front → ⊥) → IsFileReason front None reason.Syntax
 end_reason front none = (λ f. none f.0 f.1 f.2, λ out. out)

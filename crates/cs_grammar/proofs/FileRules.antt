@@ -122,7 +122,7 @@ typedef_pair names = record {
   least_second = separated_least (ObjectDeclarators names) semicolon (object_declarators_least names);
 }
 
--- `typedef` doesn't stand first
+-- the first token isn't `typedef`
 abbrev pub HasNoTypedef : Kinds → Type 0
 HasNoTypedef tokens = (more : Kinds) → tokens ≡ token.Keyword keyword.Typedef ∷ more → ⊥
 
@@ -189,7 +189,7 @@ rests_least names = record { tree = no_name; is_phrase = tt; below = λ other is
 pub external_joins : (names : Names) → Joins (FileSpecs names) (ExternalRests names)
 external_joins names = λ c d after is is' shut. rest_follows names d after is'
 
--- a part of a file that is no typedef
+-- an external declaration that isn't a typedef
 abbrev pub external_single : (names : Names)
     → Single (Externals names) (Sequence (FileSpecs names) (ExternalRests names)) 1 [] (λ part. external_from part.0 part.1) HasNoTypedef
 external_single names = record {
@@ -223,7 +223,7 @@ semicolon_is names (definition head body) after following is same =
     absurd (starts_semicolon (head_text head (open_brace ∷ items_text body (close_brace ∷ after))) following
     (head_start names head (open_brace ∷ items_text body (close_brace ∷ after)) is.0) same)
 
--- a semicolon stands after the type
+-- a semicolon follows the specifiers
 pub rest_no_name : (names : Names) (limit : ℕ) → Exactly (ExternalRests names) limit no_name
 rest_no_name names limit = record {
   is_phrase = tt;
@@ -231,7 +231,7 @@ rest_no_name names limit = record {
   exact = λ other after following is same. semicolon_is names other after following is same;
 }
 
--- no semicolon stands first, and no name of a function with its parenthesis
+-- the tokens begin neither with a semicolon nor with the name of a function and its parenthesis
 pub record IsObjects (names : Names) (tokens : Kinds) : Type 0 where
   pub named : (more : Kinds) → tokens ≡ semicolon ∷ more → ⊥
   pub no_function : (ps : List PointerWord) (n : List ℕ) (more : Kinds) → IsTrue (is_pointer ps) → IsFree names n
@@ -250,7 +250,7 @@ objects_invert names (definition head body) after following is fit same =
     absurd (fit.no_function head.pointers head.name
     (parameters_text head.parameters (close_parenthesis ∷ open_brace ∷ items_text body (close_brace ∷ after))) h.pointers h.free (sym same))
 
--- objects after the type
+-- objects after the specifiers
 abbrev pub objects_single : (names : Names) → Single (ExternalRests names) (Separated (ObjectClass names) semicolon) 0 [] objects (IsObjects names)
 objects_single names = record {
   production = record {
@@ -264,7 +264,7 @@ objects_single names = record {
   least = object_list_least names;
 }
 
--- what stands after a declarator's name is no parenthesis
+-- what follows a declarator's name isn't a parenthesis
 brackets_no_parenthesis : (bs : List (Option Written)) (rest more : Kinds) → ((m : Kinds) → rest ≡ open_parenthesis ∷ m → ⊥)
     → brackets_text bs rest ≡ open_parenthesis ∷ more → ⊥
 brackets_no_parenthesis [] rest more none same = none more same
@@ -345,7 +345,7 @@ heads_refused names limit ps n fs next deep p r = record {
       };
 }
 
--- a function of its head and what stands after it
+-- the function with this head and what follows it
 abbrev pub function_of : Head → Option Items → ExternalRest
 function_of head None = function head
 function_of head (Some body) = definition head body
@@ -383,7 +383,7 @@ function_rises : (limit : ℕ) (head : Head) (part : Option Items) → limit < e
 function_rises limit head None high = absurd (omega (arith, high))
 function_rises limit head (Some body) high = omega (arith, high)
 
--- the head of a function was taken: what is left is a semicolon or a block
+-- the head of a function was taken: a semicolon or a block remains
 pub function_tail : (names : Names) (limit : ℕ) (head : Head) → Exactly (Heads names) limit head
     → Tail (ExternalRests names) (FunctionEnds names head) limit limit (head_text head []) (function_of head) (λ rest. Unit {0})
 function_tail names limit head e = record {
@@ -414,7 +414,7 @@ semicolon_end : (names : Names) (head : Head) (other : Option Items) (after foll
 semicolon_end names head None after following same = (refl, cc)
 semicolon_end names head (Some body) after following same = absurd cc
 
--- a semicolon stands after the head
+-- a semicolon follows the head
 pub end_semicolon : (names : Names) (head : Head) (limit : ℕ) → Exactly (FunctionEnds names head) limit None
 end_semicolon names head limit = record {
   is_phrase = tt;
@@ -431,7 +431,7 @@ end_other : (names : Names) (head : Head) (next : TokenKind) → (next ≡ semic
 end_other names head next no_semicolon no_brace None after more is same = no_semicolon cc
 end_other names head next no_semicolon no_brace (Some body) after more is same = let k : next ≡ open_brace = cc in no_brace k is.0
 
--- neither a semicolon nor a block stands after the head, or a block after one whose parameters haven't all a name
+-- neither a semicolon nor a block follows the head, or a block follows one whose parameters don't all have a name
 pub end_wrong : (names : Names) (head : Head) (limit : ℕ) (next : TokenKind) → (next ≡ semicolon → ⊥)
     → (next ≡ open_brace → AreNamed head.parameters → ⊥) → Refused (FunctionEnds names head) limit [] next false
 end_wrong names head limit next no_semicolon no_brace =
@@ -459,7 +459,7 @@ abbrev pub body_single : (names : Names) (head : Head) → AreNamed head.paramet
     → Single (FunctionEnds names head) (BlockRows names) 1 (open_brace ∷ []) Some (λ rest. Unit {0})
 body_single names head named = record { production = body_production names head named; law = block_rows_law names; least = block_rows_least names }
 
--- what stands before declarators, and so a part of a file, has some token
+-- specifiers, and so an external declaration, have at least one token
 pub specs_has : (names : Names) (specs : Specs) (x : Kinds) → AreSpecs names specs → specs_text specs x ≡ [] → ⊥
 specs_has names NoSpec x is same = false≢true is.0
 specs_has names (MoreSpecs s others) x is same = let b = spec_starts s (specs_text others x) in let z : first_of s ∷ b.0 ≡ [] = sym b.1 ∙ same in cc
@@ -483,7 +483,7 @@ file_invert names limit e x (o ∷ others) after following is none same =
     let k = x.exact o (externals_text others after) following is.0 same in
     (others, ap (λ (y : External). y ∷ others) k.0, subst (λ (y : External). IsFile (names_after names y) others) k.0 is.1, sym k.1)
 
--- a part of a file was taken: what is left is the rest of the file
+-- an external declaration was taken: the rest of the file remains
 pub file_tail : (names : Names) (limit : ℕ) (e : External) → Exactly (Externals names) limit e
     → Tail (FilesFrom names) (FilesFrom (names_after names e)) limit limit (external_text e []) (λ rest. e ∷ rest) (λ rest. Unit {0})
 file_tail names limit e x =
@@ -504,7 +504,7 @@ file_tail names limit e x =
       rises = λ part high. omega (arith, high);
     }
 
--- so many parts of a file were taken, after which these are the typedef names
+-- so many external declarations were taken, after which these are the typedef names
 abbrev pub FileSoFar : Names → ℕ → List External → Type 0
 FileSoFar names limit done = Tail (FilesFrom []) (FilesFrom names) limit limit (externals_text done []) (λ rest. done ++ rest) (λ rest. Unit {0})
 
@@ -515,7 +515,7 @@ files_split : (done more : List External) (x : Kinds) → externals_text (done +
 files_split [] more x = refl
 files_split (d ∷ ds) more x = ap (external_text d) (files_split ds more x)
 
--- one part more was taken
+-- one more external declaration was taken
 pub file_more : (names : Names) (limit : ℕ) (done : List External) (e : External) → FileSoFar names limit done → Exactly (Externals names) limit e
     → FileSoFar (names_after names e) limit (done ++ e ∷ [])
 file_more names limit done e so_far x =
@@ -535,8 +535,8 @@ pub highest_low : (limit : ℕ) (file : List External) → AreLow limit file →
 highest_low limit [] low = omega arith
 highest_low limit (e ∷ es) low = let h = highest_low limit es low.1 in let l = low.0 in omega (arith, h, l)
 
--- a token is refused after the parts of a file that were taken and the tokens of the next one: a file that is low enough begins
--- with them, and none does with the token too; a higher one does exactly where that is reported
+-- a token is refused after the external declarations that were taken and the tokens of the next one: a file within the limit begins
+-- with them, and none with the token too; a higher one does exactly if that is reported
 pub record FileRefused (limit : ℕ) (front : Kinds) (next : TokenKind) (deep : Bool) : Type 0 where
   pub begun : BeginsLowFile limit front
   pub never : BeginsLowFile limit (front ++ next ∷ []) → ⊥
@@ -589,7 +589,7 @@ file_begun names limit done so_far front begun =
           }
     ]
 
--- a part of a file was refused
+-- an external declaration was refused
 pub file_refused : (names : Names) (limit : ℕ) (done : List External) → FileSoFar names limit done
     → (front : Kinds) (next : TokenKind) (deep : Bool) → Refused (Externals names) limit front next deep
     → FileRefused limit (externals_text done [] ++ front) next deep
@@ -621,7 +621,7 @@ rest_unfinished names limit front next deep some r (e ∷ es) is same =
     let v = r.never e (externals_text es []) [] is.0 tt (inl refl) (same ∙ sym (append-nil front)) in
     v.onward refl
 
--- the tokens end inside a part of a file: no file has them alone
+-- the tokens end inside an external declaration: they aren't those of a file
 pub file_unfinished : (names : Names) (limit : ℕ) (done : List External) → FileSoFar names limit done
     → (front : Kinds) (next : TokenKind) (deep : Bool) → (front ≡ [] → ⊥) → Refused (Externals names) limit front next deep
     → (file : List External) → IsFile [] file → file_text file ≡ externals_text done [] ++ front → ⊥
@@ -633,7 +633,7 @@ rest_ends : (names : Names) (rest : List External) → IsFile names rest → ext
 rest_ends names [] is same = refl
 rest_ends names (e ∷ es) is same = absurd (external_has names e (externals_text es []) is.0 same)
 
--- all parts of a file were taken: it is the one file with these tokens, and low enough
+-- all external declarations were taken: this is the only file with these tokens, and within the limit
 pub file_took : (names : Names) (limit : ℕ) (done : List External) → FileSoFar names limit done
     → IsFile [] done × AreLow limit done × ((file : List External) → IsFile [] file → file_text file ≡ file_text done → file ≡ done)
 file_took names limit done so_far =

@@ -38,7 +38,7 @@ none_is names (FirstRuns e) after following is same = absurd (false≢true (runs
 none_is names (FirstDeclares specs objects) after following is same =
     absurd (false≢true (declared_first names specs objects after semicolon following is.0 same))
 
--- a semicolon stands there
+-- the next token is a semicolon
 pub first_none : (names : Names) (limit : ℕ) → Exactly (Firsts names) limit NoFirst
 first_none names limit = record { is_phrase = tt; low = omega arith; exact = λ other after following is same. none_is names other after following is same }
 
@@ -109,7 +109,7 @@ first_runs_refused names limit some front next deep fit r =
     single_refused (first_runs_single names) limit limit (omega arith, some) front next deep (run_fits names limit front next deep fit r)
     (closed_refused (Expressions names 0) semicolon limit (text_law names 0) (λ part more. omega arith) front next deep r)
 
--- the expression was taken, and no semicolon stands after it
+-- the expression was taken, and no semicolon follows it
 pub first_runs_wrong : (names : Names) (limit : ℕ) → 1 ≤ limit
     → (e : Written) (next : TokenKind) (deep : Bool) → Took (Expressions names 0) limit e next deep → (next ≡ semicolon → ⊥)
     → Refused (Firsts names) limit (text e []) next deep

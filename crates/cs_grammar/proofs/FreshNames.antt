@@ -6,7 +6,7 @@ use Rattle.std.specs.Prelude.{nat_eq}
 use Rattle.cs_names.proofs.Comparisons.{same_bytes}
 use Rattle.cs_grammar.specs.TypeWords.{Names, is_among}
 
--- as many zeros
+-- so many zeros
 abbrev pub zeros : ℕ → List ℕ
 zeros zero = []
 zeros (suc n) = 0 ∷ zeros n
@@ -15,7 +15,7 @@ zeros_length : (n : ℕ) → length (zeros n) ≡ n
 zeros_length zero = refl
 zeros_length (suc n) = let e = zeros_length n in omega (arith, e)
 
--- the lengths of names together
+-- the sum of the lengths of names
 abbrev pub all_lengths : Names → ℕ
 all_lengths [] = 0
 all_lengths (name ∷ names) = length name + all_lengths names
@@ -28,7 +28,7 @@ longer_is_new (n ∷ names) name long among =
       | inr e ↦ longer_is_new names name (omega (arith, long)) e
     ]
 
--- a name that is none of these
+-- a name that differs from all of these
 abbrev pub fresh : Names → List ℕ
 fresh names = zeros (suc (all_lengths names))
 

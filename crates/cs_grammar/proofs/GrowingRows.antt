@@ -8,7 +8,7 @@ use Rattle.cs_grammar.proofs.Tails.{tail_start, tail_then, tail_as}
 use Rattle.cs_grammar.proofs.Rows.{Listing, row_tail, row_refused}
 use Rattle.cs_grammar.proofs.Sequences.{took_exact}
 
--- a row after another one, and the tokens of a row without what closes it
+-- lists can be appended, and a list has tokens without those that close it
 pub record Growing (L C : Class) (all : Listing L C) : Type 0 where
   pub append : L.Tree → L.Tree → L.Tree
   pub row_text : L.Tree → Kinds → Kinds
@@ -20,7 +20,7 @@ pub record Growing (L C : Class) (all : Listing L C) : Type 0 where
   pub row_append : (done : L.Tree) (x y : Kinds) → row_text done x ++ y ≡ row_text done (x ++ y)
   pub law : Lawful L
 
--- a row so far was taken, and what fits may stand after it
+-- the list so far was taken, and what fits may follow it
 abbrev pub GrownSoFar : {L C : Class} {all : Listing L C} → Growing L C all → ℕ → L.Tree → (Kinds → Type 0) → Type 0
 GrownSoFar {L} grow limit done Fit = Tail L L limit limit (grow.row_text done []) (grow.append done) Fit
 
@@ -30,7 +30,7 @@ grown_none {L} {C} {all} grow limit =
     tail_as L L limit limit [] (grow.row_text all.none []) (λ rest. rest) (grow.append all.none) (λ rest. Unit {0}) (λ rest. Unit {0}) (tail_start L limit)
     (sym (grow.none_text [])) (λ rest. sym (grow.none_append rest)) (λ following fit. tt)
 
--- one phrase more was taken
+-- one more phrase was taken
 pub grown_more : {L C : Class} {all : Listing L C} (grow : Growing L C all) (limit : ℕ) (done : L.Tree) (Fit : Kinds → Type 0)
     → GrownSoFar grow limit done Fit → (c : C.Tree) (next : TokenKind) (deep : Bool) → Took C limit c next deep
     → (deep ≡ true → C.Shut c (next ∷ [])) → ((following : Kinds) → Near next following → Fit (C.spell c following))
@@ -43,7 +43,7 @@ grown_more {L} {C} {all} grow limit done Fit so_far c next deep t settled fits =
     (grow.row_append done [] (C.spell c []) ∙ sym (grow.text_more done c []))
     (λ rest. sym (grow.append_more done c rest)) (λ following fit. fit)
 
--- a phrase of the row was refused, and not at what ends the row
+-- a phrase of the list was refused, and the refused tokens don't end the list
 pub grown_refused : {L C : Class} {all : Listing L C} (grow : Growing L C all) (limit : ℕ) (done : L.Tree) (Fit : Kinds → Type 0)
     → GrownSoFar grow limit done Fit → (front : Kinds) (next : TokenKind) (deep : Bool)
     → ((following : Kinds) → Near next following → Fit (front ++ following))
@@ -53,7 +53,7 @@ grown_refused {L} {C} {all} grow limit done Fit so_far front next deep fits unen
     tail_refused L L limit limit (grow.row_text done []) (grow.append done) Fit grow.law so_far front next deep fits
     (row_refused L C limit all front next deep unended r)
 
--- the row ends
+-- the list ends
 pub grown_took : {L C : Class} {all : Listing L C} (grow : Growing L C all) (limit : ℕ) (done : L.Tree) (Fit : Kinds → Type 0)
     → GrownSoFar grow limit done Fit → ((following : Kinds) → Fit (L.spell all.none following)) → Exactly L limit all.none
     → (next : TokenKind) → Took L limit done next false
@@ -62,7 +62,7 @@ grown_took {L} {C} {all} grow limit done Fit so_far fits x next =
     (tail_took L L limit limit (grow.row_text done []) (grow.append done) Fit grow.law so_far all.none next false (λ following near. fits following)
     (exact_took L limit all.none x next))
 
--- the same, whatever stands after, where anything may
+-- the same, whatever follows, if any token may follow
 pub grown_exact : {L C : Class} {all : Listing L C} (grow : Growing L C all) (limit : ℕ) (done : L.Tree) (Fit : Kinds → Type 0)
     → GrownSoFar grow limit done Fit → ((following : Kinds) → Fit (L.spell all.none following)) → Exactly L limit all.none
     → ((other : L.Tree) (after : Kinds) → L.Shut other after) → (some : TokenKind) → Exactly L limit done

@@ -50,11 +50,11 @@ none_is names VoidAlone after following are same = absurd cc
 none_is names (ParameterList list) after following are same =
     absurd (rows_no_punctuator names list (close_parenthesis ∷ after) punctuator.CloseParenthesis following are.0 are.2 same)
 
--- the closing parenthesis stands there
+-- the next token is the closing parenthesis
 pub lists_none : (names : Names) (limit : ℕ) → 1 ≤ limit → Exactly (ParameterLists names) limit NoParameter
 lists_none names limit some = record { is_phrase = tt; low = some; exact = λ other after following is same. none_is names other after following is same }
 
--- `void` alone after what stands before a parameter
+-- a specifier that begins with `void` is `void`
 void_spec : (s : Spec) (x more : Kinds) → spec_text s x ≡ token.Keyword keyword.Void ∷ more → (s ≡ Plain word.Void) × (x ≡ more)
 void_spec (Plain word.Void) x more same = (refl, cc)
 void_spec Static x more same = absurd cc
@@ -88,7 +88,7 @@ closing_specs (MoreSpecs (Plain (word.Integer Unsigned)) others) x more same = a
 closing_specs (MoreSpecs (StructBody tag members) others) x more same = absurd cc
 closing_specs (MoreSpecs (EnumBody tag constants comma) others) x more same = absurd cc
 
--- nothing of a parameter but its first words stands before a closing parenthesis
+-- if the rest of a parameter and of its list is only a closing parenthesis, the parameter has only its specifiers
 closing_tail : (ps : List PointerWord) (o : Option (List ℕ)) (bs : List (Option Written)) (list : List Parameter) (after more : Kinds)
     → pointers_text ps (name_text o (brackets_text bs (each_after_comma parameter_text list (close_parenthesis ∷ after)))) ≡ close_parenthesis ∷ more
     → (tail_of ps o bs ≡ tail_of [] None []) × (list ≡ []) × (after ≡ more)
@@ -121,7 +121,7 @@ lone_specs (MoreSpecs s others) ps o bs list after more same =
     let t = closing_tail ps o bs list after more (ap (λ (x : Specs). specs_text x rest) (sym e) ∙ k.1) in
     (ap (λ (x : Spec). MoreSpecs x others) k.0 ∙ ap (MoreSpecs (Plain word.Void)) e, t.0, t.1)
 
--- a parameter list whose tokens are `void` and a closing parenthesis
+-- a parameter list whose tokens are only `void` and a closing parenthesis
 lone_list : (list : List Parameter) (after more : Kinds) → IsSomeList list
     → with_commas parameter_text list (close_parenthesis ∷ after) ≡ token.Keyword keyword.Void ∷ close_parenthesis ∷ more
     → list ≡ lone_void ∷ []
@@ -138,11 +138,11 @@ void_is names VoidAlone after following are same = (refl, cc)
 void_is names NoParameter after following are same = absurd cc
 void_is names (ParameterList list) after following are same = absurd (are.1 (lone_list list after following are.0 same))
 
--- `void` stands there alone
+-- the list is only `void`
 pub lists_void : (names : Names) (limit : ℕ) → 1 ≤ limit → Exactly (ParameterLists names) limit VoidAlone
 lists_void names limit some = record { is_phrase = tt; low = some; exact = λ other after following is same. void_is names other after following is same }
 
--- neither a closing parenthesis nor `void` and one stand first
+-- the tokens begin neither with a closing parenthesis nor with `void` and one
 pub record IsRow (tokens : Kinds) : Type 0 where
   pub unclosed : (more : Kinds) → tokens ≡ close_parenthesis ∷ more → ⊥
   pub no_void : (more : Kinds) → tokens ≡ token.Keyword keyword.Void ∷ close_parenthesis ∷ more → ⊥
@@ -180,7 +180,7 @@ parameter_rows_least names = record {
   below = λ other is. let h = rows_below names other is.0 is.1.1 in omega (arith, h);
 }
 
--- parameters as what stands between parentheses
+-- parameters as what is between parentheses
 abbrev pub list_single : (names : Names) → Single (ParameterLists names) (ParameterRows names) 1 [] ParameterList IsRow
 list_single names = record {
   production = record {
@@ -194,7 +194,7 @@ list_single names = record {
   least = parameter_rows_least names;
 }
 
--- parameters that were taken and aren't `void` alone
+-- parameters that were taken and aren't only `void`
 pub rows_took : (names : Names) (limit : ℕ) (list : List Parameter) (next : TokenKind) → list ≢ lone_void ∷ []
     → Took (Separated (ParameterClass names) close_parenthesis) limit list next false → Took (ParameterRows names) limit list next false
 rows_took names limit list next other t = record {
@@ -206,7 +206,7 @@ rows_took names limit list next other t = record {
   joined = λ reported more shut. false≢true reported;
 }
 
--- parameters that are refused: the tokens before may continue with another list than `void` alone
+-- parameters that are refused: the tokens before may continue with a list other than `void`
 pub rows_refused : (names : Names) (limit : ℕ) (front : Kinds) (next : TokenKind) (deep : Bool)
     → ((front ≡ []) ⊎ BeginsLow (ParameterRows names) limit front) → (deep ≡ true → Begins (ParameterRows names) (front ++ next ∷ []))
     → Refused (Separated (ParameterClass names) close_parenthesis) limit front next deep → Refused (ParameterRows names) limit front next deep
@@ -229,7 +229,7 @@ lists_some (ParameterList list) = omega arith
 abbrev pub parameter_lists_least : (names : Names) → Least (ParameterLists names)
 parameter_lists_least names = record { tree = NoParameter; is_phrase = tt; below = λ other is. lists_some other }
 
--- the head of a function of its parts
+-- the head of a function with these parts
 abbrev pub head_of : List PointerWord → List ℕ → Parameters → Head
 head_of ps n parameters = record { pointers = ps; name = n; parameters = parameters }
 
@@ -246,7 +246,7 @@ head_invert names ps n whole after following is same =
       sym f.2,
     )
 
--- the pointers and the name of a function were taken: what is left is what stands between its parentheses
+-- the pointers and the name of a function were taken: what is between its parentheses remains
 abbrev pub head_single : (names : Names) (ps : List PointerWord) (n : List ℕ) → IsTrue (is_pointer ps) → IsFree names n
     → Single (Heads names) (Following open_parenthesis (ParameterLists names)) 1 (pointers_text ps (token.Name n ∷ [])) (head_of ps n) (λ rest. Unit {0})
 head_single names ps n p free = record {

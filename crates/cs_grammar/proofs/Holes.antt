@@ -1,4 +1,4 @@
--- A phrase inside another: what is known of the whole if the part was refused, or if a wrong token followed it. For the contracts
+-- A phrase inside another: what follows for the whole if the part was refused, or if a wrong token followed it. For the contracts
 -- of every parser of phrases.
 use Rattle.std.proofs.Common.{◌≡◌, ℕ, ◌<◌, ◌≤◌, ◌⊎◌, inl, inr, Bool, false, arith, List, [], ◌∷◌, ◌++◌, refl, sym, ap}
 use Rattle.std.proofs.Common.{◌∙◌, append_assoc, append-nil, subst}
@@ -8,14 +8,14 @@ use Rattle.std.proofs.lemmas.Bool.{false≢true}
 use Rattle.cs_grammar.specs.Text.{Kinds}
 use Rattle.cs_grammar.specs.Parsing.{Class, Near, IsOver, BeginsLow, Took, Refused, Exactly}
 
--- what stands after the tokens of a tree may be cut off
+-- what follows the tokens of a tree may be cut off
 abbrev pub Lawful : Class → Type 0
 Lawful C = (tree : C.Tree) (x y : Kinds) → C.spell tree x ++ y ≡ C.spell tree (x ++ y)
 
 pub splits : (C : Class) → Lawful C → (tree : C.Tree) (x : Kinds) → C.spell tree x ≡ C.spell tree [] ++ x
 splits C law tree x = sym (law tree [] x)
 
--- what fills a hole in a phrase of C: a phrase of D, before these tokens, which rises above its limit only where the whole does
+-- what fills a hole in a phrase of C: a phrase of D, before these tokens, which exceeds its limit only if the whole does
 pub record Filling (C D : Class) (limit inner : ℕ) (After : Kinds → Type 0) (whole : C.Tree) (following : Kinds) : Type 0 where
   pub part : D.Tree
   pub rest : Kinds
@@ -33,7 +33,7 @@ pub record Completion (C D : Class) (limit inner : ℕ) (before : Kinds) (part :
   pub spelled : C.spell whole [] ≡ before ++ D.spell part more
   pub low : D.tall part ≤ inner → C.tall whole ≤ limit
 
--- a place for a phrase of D in phrases of C, after these tokens and before those, where what fills it has to fit
+-- a hole for a phrase of D in phrases of C, after these tokens and before those, where what fills it has to fit
 pub record Hole (C D : Class) (limit inner : ℕ) (before : Kinds) (Fit After : Kinds → Type 0) : Type 0 where
   pub started : (before ≡ []) ⊎ BeginsLow C limit before
   pub invert : (whole : C.Tree) (after following : Kinds) → C.Is whole → C.Shut whole after → Fit following
@@ -94,7 +94,7 @@ hole_refused C D limit inner before Fit After law hole front next deep fits r = 
       };
 }
 
--- the part was read, and a token came that may not stand after it
+-- the part was read, and a token came that may not follow it
 pub hole_wrong : (C D : Class) (limit inner : ℕ) (before : Kinds) (Fit After : Kinds → Type 0) → Lawful D → Hole C D limit inner before Fit After
     → (part : D.Tree) (next : TokenKind) (deep : Bool) → ((following : Kinds) → Near next following → Fit (D.spell part following))
     → Took D inner part next deep → (After [] → ⊥) → ((more : Kinds) → After (next ∷ more) → ⊥)
@@ -133,7 +133,7 @@ hole_wrong C D limit inner before Fit After law hole part next deep fits t ended
       };
 }
 
--- a hole at the end of phrases of C: the whole is made of the part, which has to fit, and both end together
+-- a hole at the end of phrases of C: the whole is built of the part, which has to fit, and both end together
 pub record Tail (C D : Class) (limit inner : ℕ) (before : Kinds) (build : D.Tree → C.Tree) (Fit : Kinds → Type 0) : Type 0 where
   pub started : (before ≡ []) ⊎ BeginsLow C limit before
   pub invert : (whole : C.Tree) (after following : Kinds) → C.Is whole → C.Shut whole after → Fit following
@@ -233,7 +233,7 @@ closed_refused D close limit law shut front next deep r =
     hole_refused (ClosedBy D close) D limit limit [] (λ rest. Unit {0}) (λ rest. (more : Kinds) × (rest ≡ close ∷ more)) law
     (closed_hole D close limit shut) front next deep (λ following near. tt) r
 
--- another token stands after the phrase
+-- another token follows the phrase
 pub closed_wrong : (D : Class) (close : TokenKind) (limit : ℕ) → Lawful D → ((part : D.Tree) (more : Kinds) → D.Shut part (close ∷ more))
     → (part : D.Tree) (next : TokenKind) (deep : Bool) → Took D limit part next deep → (next ≡ close → ⊥)
     → Refused (ClosedBy D close) limit (D.spell part []) next deep
@@ -242,7 +242,7 @@ closed_wrong D close limit law shut part next deep t other =
     (closed_hole D close limit shut) part next deep (λ following near. tt) t
     (λ m. let e = m.1 in cc) (λ more m. let e = m.1 in other cc)
 
--- the token stands after the phrase
+-- the token follows the phrase
 pub closed_exact : (D : Class) (close : TokenKind) (limit : ℕ) → ((part : D.Tree) (more : Kinds) → D.Shut part (close ∷ more))
     → (part : D.Tree) (deep : Bool) → Took D limit part close deep → Exactly (ClosedBy D close) limit part
 closed_exact D close limit shut part deep t = record {
@@ -255,7 +255,7 @@ closed_exact D close limit shut part deep t = record {
       ];
 }
 
--- what is determined by its tokens was taken, whatever stands after it
+-- a phrase that is determined by its tokens was taken, whatever follows it
 pub exact_took : (C : Class) (limit : ℕ) (part : C.Tree) → Exactly C limit part → (next : TokenKind) → Took C limit part next false
 exact_took C limit part e next = record {
   is_phrase = e.is_phrase;
@@ -265,7 +265,7 @@ exact_took C limit part e next = record {
   joined = λ reported more none. false≢true reported;
 }
 
--- the end of a phrase: no token of it is left
+-- the end of a phrase: none of its tokens remain
 abbrev pub Ended : Class
 Ended = record { Tree = Unit {0}; spell = λ tree after. after; tall = λ tree. 0; Is = λ tree. Unit {0}; Shut = λ tree after. Unit {0} }
 
@@ -291,7 +291,7 @@ name_law = λ tree x y. refl
 pub name_exact : (limit : ℕ) (name : List ℕ) → Exactly AnyName limit name
 name_exact limit name = record { is_phrase = tt; low = omega arith; exact = λ other after following is same. (cc, cc) }
 
--- another token stands where a name is awaited
+-- another token comes where a name is expected
 pub name_refused : (limit : ℕ) (next : TokenKind) → ((name : List ℕ) → next ≡ token.Name name → ⊥) → Refused AnyName limit [] next false
 name_refused limit next none = record {
   begun = inl refl;

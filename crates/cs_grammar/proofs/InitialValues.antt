@@ -74,7 +74,7 @@ values_law names = initial_append
 abbrev pub values_least : (names : Names) → Least (Values names)
 values_least names = record { tree = One nought; is_phrase = (omega arith, tt); below = λ other is. let h = value_height other in omega (arith, h) }
 
--- no value begins with a token that begins neither an expression nor a list
+-- an initializer begins with a token that begins an expression or a list
 pub value_first : (names : Names) (i : Initial) (after : Kinds) (t : TokenKind) (more : Kinds) → IsInitial names i → begins_expression names t ≡ false
     → (t ≡ open_brace → ⊥) → initial_text i after ≡ t ∷ more → ⊥
 value_first names (One e) after t more is none brace same =
@@ -94,7 +94,7 @@ value_row names = record { law = values_law names; least = values_least names; c
 pub no_value_closes : (names : Names) → NoneCloses (Values names) close_brace
 no_value_closes names = λ i after more is same. value_first names i after close_brace more is refl (λ e. cc) same
 
--- what ends a value continues with no expression
+-- what ends an initializer doesn't continue an expression
 pub value_shut : (after : Kinds) → Follows ends_value after → join_of after ≤ 1
 value_shut [] f = omega arith
 value_shut (token.Punctuator punctuator.Comma ∷ x) f = omega arith
@@ -102,7 +102,7 @@ value_shut (token.Punctuator punctuator.Semicolon ∷ x) f = omega arith
 value_shut (token.Punctuator punctuator.CloseBrace ∷ x) f = omega arith
 value_shut _ f = absurd (false≢true f)
 
--- no brace stands first
+-- the first token isn't a brace
 abbrev pub HasNoBrace : Kinds → Type 0
 HasNoBrace following = (more : Kinds) → following ≡ open_brace ∷ more → ⊥
 
@@ -153,7 +153,7 @@ pub value_took : (names : Names) (limit : ℕ) → 1 ≤ limit
 value_took names limit some e next deep t =
     single_took (value_single names) limit limit (omega arith, some) e next deep (λ following near. no_brace_text names e following t.is_phrase) t
 
--- a list of its items
+-- the list with these items
 abbrev pub listed_of : List Initial × Bool → Initial
 listed_of row = Listed (items_of row.0) row.1
 

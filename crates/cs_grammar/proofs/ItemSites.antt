@@ -83,7 +83,7 @@ declaration_example names t e =
           ∙ x.spelled (with_commas declared_text (least_object names ∷ []) (semicolon ∷ []));
     }
 
--- what stands in a block that begins with this token
+-- an item of a block that begins with this token
 pub item_example : (names : Names) (t : TokenKind) → begins_item names t ≡ true → Begins (BlockItems names) (t ∷ [])
 item_example names t e =
     elim (or_cases (begins_sentence t) (begins_type names t) e) [
@@ -94,13 +94,13 @@ item_example names t e =
 pub item_has : (names : Names) (i : Item) (after : Kinds) → IsItem names i → item_text i after ≡ [] → ⊥
 item_has names i after is same = some_first (begins_item names) (item_text i after) (item_begins names i after is) same
 
--- nothing that may stand in a block begins with the token
+-- no item of a block begins with the token
 pub item_not : (names : Names) (limit : ℕ) (next : TokenKind) → begins_item names next ≡ false → Refused (BlockItems names) limit [] next false
 item_not names limit next e =
     none_refused (BlockItems names) limit next (item_has names)
     (λ i after more is same. false≢true (sym e ∙ first_passes (begins_item names) (item_text i after) next more (item_begins names i after is) same))
 
--- the limit doesn't allow anything
+-- the limit allows no item
 pub item_none : (names : Names) (limit : ℕ) (next : TokenKind) → limit < 1 → begins_item names next ≡ true
     → Refused (BlockItems names) limit [] next true
 item_none names limit next full e =
@@ -112,7 +112,7 @@ item_two : (names : Names) (i : Item) (after : Kinds) (t : TokenKind) (more : Ki
 item_two names (Does s) after t more is same l = two_high names s after t more same l
 item_two names (Declares specs objects) after t more is same l = let h = block_specs_height names specs is.0 in omega (arith, h)
 
--- the limit allows a statement without parts alone, and the token begins none
+-- the limit allows only a statement without parts, and the token begins none
 pub item_low : (names : Names) (limit : ℕ) (next : TokenKind) → limit < 2 → begins_item names next ≡ true → begins_low next ≡ false
     → Refused (BlockItems names) limit [] next true
 item_low names limit next full e l =
@@ -124,7 +124,7 @@ second_near : (fs following more : Kinds) (next : TokenKind) → (first_or fs ne
 second_near [] following more next other near same = near_other colon next following more other near (sym same)
 second_near (g ∷ gs) following more next other near same = other cc
 
--- tokens of a declaration that was refused
+-- the tokens of a refused declaration begin a type and no label
 pub declaration_fits : (names : Names) (f : TokenKind) (fs : Kinds) (next : TokenKind) → begins_type names f ≡ true
     → ((n : List ℕ) → f ≡ token.Name n → first_or fs next ≡ colon → ⊥) → (following : Kinds) → Near next following
     → IsDeclaration names ((f ∷ fs) ++ following)
@@ -168,7 +168,7 @@ either_type : (b : Bool) → (b ≡ false) ⊎ (b ≡ true)
 either_type false = inl refl
 either_type true = inr refl
 
--- a statement's tokens
+-- the first token of a statement begins no type, or a colon follows it
 pub statement_is : (names : Names) (s : Sentence) (x : Kinds) → IsSentence names s → IsStatement names (sentence_text s x)
 statement_is names s x is first more same =
     elim (either_type (begins_type names first)) [
@@ -263,7 +263,7 @@ case_fits names limit (f ∷ fs) next deep first r following near t more same =
       | inr b ↦ ap is_case (sym k) ∙ item_no_case names b.phrase [] b.is_phrase f (fs ++ b.more) b.spelled
     ]
 
--- what any block may have was refused in a `switch`
+-- an item that any block may have was refused in a `switch`
 pub inside_refused : (names : Names) (limit : ℕ) → 1 ≤ limit
     → (front : Kinds) (next : TokenKind) (deep : Bool) → (front ≡ [] → is_case next ≡ false) → Refused (BlockItems names) limit front next deep
     → Refused (SwitchParts names) limit front next deep
@@ -279,7 +279,7 @@ inside_took names limit some i next deep t =
 part_has : (names : Names) (i : SwitchItem) (after : Kinds) → IsSwitchItem names i → switch_item_text i after ≡ [] → ⊥
 part_has names i after is same = some_first (begins_switch_part names) (switch_item_text i after) (switch_part_begins names i after is) same
 
--- nothing that may stand in a `switch` begins with the token
+-- no item of a `switch` begins with the token
 pub part_not : (names : Names) (limit : ℕ) (next : TokenKind) → begins_switch_part names next ≡ false → Refused (SwitchParts names) limit [] next false
 part_not names limit next e =
     none_refused (SwitchParts names) limit next (part_has names)
@@ -299,7 +299,7 @@ case_none names limit full =
     (λ i after more is same. let h = part_some names i after (word keyword.Case) more is (λ e. cc) same in omega (arith, h, full))
     (record { phrase = Case nought; more = text nought (colon ∷ []); is_phrase = (omega arith, tt); spelled = refl })
 
--- the limit doesn't allow anything but `default`
+-- the limit allows only `default`
 pub inside_none : (names : Names) (limit : ℕ) (next : TokenKind) → limit < 1 → begins_item names next ≡ true → (next ≡ word keyword.Default → ⊥)
     → Refused (SwitchParts names) limit [] next true
 inside_none names limit next full e other =

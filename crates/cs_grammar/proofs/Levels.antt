@@ -97,7 +97,7 @@ begins_level names level tight front less b = record {
   spelled = b.spelled;
 }
 
--- what was taken on a tighter level is taken on a looser one too, if nothing looser begins so
+-- what was taken on a tighter level is taken on a looser one too, if nothing looser has this beginning
 pub pass_took : (names : Names) (level tight limit : ℕ) (e : Written) (next : TokenKind) (deep : Bool) → level ≤ tight
     → Took (Expressions names tight) limit e next deep
     → ((other : Written) (after following : Kinds) → IsPhrase names level other → level_of other < tight → join_of after ≤ level
@@ -143,7 +143,7 @@ pass_refused names level tight limit front next deep less r none = record {
   further = λ reported. begins_level names level tight (front ++ next ∷ []) less (r.further reported);
 }
 
--- what was taken on a tighter level is taken on a looser one, where the looser phrases that begin so are too high
+-- what was taken on a tighter level is taken on a looser one, if the looser phrases with this beginning are too high
 pub deepen : (names : Names) (level tight limit : ℕ) (e : Written) (next : TokenKind) (deep : Bool) → level ≤ tight
     → Took (Expressions names tight) limit e next deep → ((more : Kinds) → join_of (next ∷ more) ≤ tight) → level < join next
     → ((other : Written) (after following : Kinds) → IsPhrase names level other → level_of other < tight → join_of after ≤ level

@@ -24,12 +24,12 @@ some_law names level MayLack close (Some e) x y = text_append e (close ∷ x) y
 abbrev pub some_least : (names : Names) (level : ℕ) (MayLack : Type 0) (close : TokenKind) → MayLack → Least (ClosedSome names level MayLack close)
 some_least names level MayLack close lack = record { tree = None; is_phrase = lack; below = λ other is. omega arith }
 
--- what closes an expression of the level: it continues with none, and begins none
+-- a token that closes an expression of the level: it continues none, and begins none
 pub record Closes (names : Names) (level : ℕ) (close : TokenKind) : Type 0 where
   pub shut : join close ≤ level
   pub begins_none : begins_expression names close ≡ false
 
--- no expression begins with what closes one
+-- no expression begins with a token that closes one
 pub no_close : (names : Names) (level : ℕ) (close : TokenKind) → Closes names level close → (e : Written) (after more : Kinds) → IsPhrase names level e
     → text e after ≡ close ∷ more → ⊥
 no_close names level close c e after more is same =
@@ -38,7 +38,7 @@ no_close names level close c e after more is same =
     let k : b.first ≡ close = cc in
     false≢true (sym c.begins_none ∙ ap (begins_expression names) (sym k) ∙ b.passes)
 
--- an expression has some token
+-- an expression has at least one token
 pub no_empty : (names : Names) (level : ℕ) (e : Written) (after : Kinds) → IsPhrase names level e → text e after ≡ [] → ⊥
 no_empty names level e after is same =
     let b = expression_begins names e after is.1 in
@@ -51,7 +51,7 @@ none_is : (names : Names) (level : ℕ) (MayLack : Type 0) (close : TokenKind) �
 none_is names level MayLack close c None after following is same = (refl, cc)
 none_is names level MayLack close c (Some e) after following is same = absurd (no_close names level close c e (close ∷ after) following is same)
 
--- what closes it stands there
+-- the next token closes it
 pub some_none : (names : Names) (level : ℕ) (MayLack : Type 0) (close : TokenKind) (limit : ℕ) → Closes names level close → MayLack
     → Exactly (ClosedSome names level MayLack close) limit None
 some_none names level MayLack close limit c lack = record {
@@ -60,7 +60,7 @@ some_none names level MayLack close limit c lack = record {
   exact = λ other after following is same. none_is names level MayLack close c other after following is same;
 }
 
--- what closes an expression doesn't stand there
+-- the next token doesn't close an expression
 abbrev pub IsUnclosed : TokenKind → Kinds → Type 0
 IsUnclosed close following = (more : Kinds) → following ≡ close ∷ more → ⊥
 
@@ -122,7 +122,7 @@ unclosed_text : (names : Names) (level : ℕ) (close : TokenKind) → Closes nam
     → IsUnclosed close (text e after)
 unclosed_text names level close c e after is more same = no_close names level close c e after more is same
 
--- another token stands after the expression
+-- another token follows the expression
 pub some_wrong : (names : Names) (level : ℕ) (MayLack : Type 0) (close : TokenKind) (limit : ℕ) → Closes names level close
     → (e : Written) (next : TokenKind) (deep : Bool) → Took (Expressions names level) limit e next deep → (next ≡ close → ⊥)
     → Refused (ClosedSome names level MayLack close) limit (text e []) next deep
@@ -157,7 +157,7 @@ some_is names level MayLack close limit c e is' x (Some o) after following is sa
     let k = x.exact o after following is same in
     (ap Some k.0, k.1)
 
--- the expression was taken before what closes it
+-- the expression was taken before the token that closes it
 pub some_exact : (names : Names) (level : ℕ) (MayLack : Type 0) (close : TokenKind) (limit : ℕ) → Closes names level close
     → (e : Written) (deep : Bool) → Took (Expressions names level) limit e close deep → Exactly (ClosedSome names level MayLack close) limit (Some e)
 some_exact names level MayLack close limit c e deep t = record {

@@ -10,7 +10,7 @@ use Rattle.cs_grammar.proofs.Tails.{first_or, Least, Production}
 use Rattle.cs_grammar.proofs.Sequences.{Joins, sequence_law, sequence_least, first_refused, second_wrong, exact_then_refused, exact_then_took, then_refused}
 use Rattle.cs_grammar.proofs.Sequences.{then_took, made_refused, made_took}
 
--- phrases of S are made of one of C and one of D, after these tokens
+-- phrases of S consist of these tokens, one of C and one of D
 pub record Pair (S C D : Class) (plus : ℕ) (before : Kinds) (build : C.Tree × D.Tree → S.Tree) : Type 0 where
   pub production : Production S (Sequence C D) plus before build (λ rest. Unit {0})
   pub law_first : Lawful C
@@ -19,7 +19,7 @@ pub record Pair (S C D : Class) (plus : ℕ) (before : Kinds) (build : C.Tree ×
   pub least_first : Least C
   pub least_second : Least D
 
--- the limit allows the least of both
+-- the limit allows the lowest phrases of both
 abbrev pub HasLimit : {S C D : Class} {plus : ℕ} {before : Kinds} {build : C.Tree × D.Tree → S.Tree} → Pair S C D plus before build → ℕ → ℕ
     → Type 0
 HasLimit {S} {C} {D} {plus} pair limit inner = (limit ≡ plus + inner) × (C.tall pair.least_first.tree ≤ inner) × (D.tall pair.least_second.tree ≤ inner)
@@ -47,7 +47,7 @@ pub pair_wrong : {S C D : Class} {plus : ℕ} {before : Kinds} {build : C.Tree �
 pair_wrong {S} {C} {D} pair limit inner has c next deep t some none =
     made pair limit inner has (C.spell c []) next deep (second_wrong C D inner pair.law_first pair.joins pair.least_second has.2 c next deep t some none)
 
--- the first part was taken, whatever stands after it, and the second refused
+-- the first part was taken, whatever follows it, and the second refused
 pub pair_second_refused : {S C D : Class} {plus : ℕ} {before : Kinds} {build : C.Tree × D.Tree
     → S.Tree} (pair : Pair S C D plus before build) (limit inner : ℕ) → HasLimit pair limit inner → (c : C.Tree) → Exactly C inner c
     → (front : Kinds) (next : TokenKind) (deep : Bool) → Refused D inner front next deep → Refused S limit (before ++ (C.spell c [] ++ front)) next deep
@@ -55,7 +55,7 @@ pair_second_refused {S} {C} {D} pair limit inner has c e front next deep r =
     made pair limit inner has (C.spell c [] ++ front) next deep
     (exact_then_refused C D inner pair.law_first pair.law_second pair.least_second has.2 c e front next deep r)
 
--- the same where the first part was taken before a token that may stand after it
+-- the same if the first part was taken before a token that may follow it
 pub pair_then_refused : {S C D : Class} {plus : ℕ} {before : Kinds} {build : C.Tree × D.Tree
     → S.Tree} (pair : Pair S C D plus before build) (limit inner : ℕ) → HasLimit pair limit inner
     → (c : C.Tree) (first : TokenKind) (deep : Bool) → Took C inner c first deep → (deep ≡ true → C.Shut c (first ∷ []))
@@ -79,7 +79,7 @@ pub pair_took : {S C D : Class} {plus : ℕ} {before : Kinds} {build : C.Tree ×
 pair_took {S} {C} {D} pair limit inner has c e d next deep t =
     took pair limit inner has (c, d) next deep (exact_then_took C D inner pair.law_first pair.law_second pair.least_second has.2 c e d next deep t)
 
--- the same where the first part was taken before a token that may stand after it
+-- the same if the first part was taken before a token that may follow it
 pub pair_then_took : {S C D : Class} {plus : ℕ} {before : Kinds} {build : C.Tree × D.Tree
     → S.Tree} (pair : Pair S C D plus before build) (limit inner : ℕ) → HasLimit pair limit inner
     → (c : C.Tree) (first : TokenKind) (deep : Bool) → Took C inner c first deep → (deep ≡ true → C.Shut c (first ∷ []))
@@ -89,13 +89,13 @@ pair_then_took {S} {C} {D} pair limit inner has c first deep t settled d next de
     took pair limit inner has (c, d) next deep'
     (then_took C D inner pair.law_first pair.law_second pair.joins pair.least_second has.2 c first deep t settled d next deep' starts t')
 
--- phrases of S are made of one of D, after these tokens
+-- phrases of S consist of these tokens and one of D
 pub record Single (S D : Class) (plus : ℕ) (before : Kinds) (build : D.Tree → S.Tree) (Fit : Kinds → Type 0) : Type 0 where
   pub production : Production S D plus before build Fit
   pub law : Lawful D
   pub least : Least D
 
--- the limit allows the least of them
+-- the limit allows the lowest of them
 abbrev pub HasPlace : {S D : Class} {plus : ℕ} {before : Kinds} {build : D.Tree → S.Tree} {Fit : Kinds → Type 0} → Single S D plus before build Fit
     → ℕ → ℕ → Type 0
 HasPlace {S} {D} {plus} single limit inner = (limit ≡ plus + inner) × (D.tall single.least.tree ≤ inner)

@@ -72,7 +72,7 @@ parameter_no_bracket [] f = tt
 parameter_no_bracket (token.Punctuator punctuator.OpenBracket ∷ x) f = absurd (false≢true f)
 parameter_no_bracket _ f = tt
 
--- pointers before what ends a name
+-- what ends a name follows pointers, and no name
 pointers_apart : (qs ps : List PointerWord) (rest : Kinds) (n : List ℕ) (following : Kinds) → Follows ends_name rest
     → pointers_text qs rest ≡ pointers_text ps (token.Name n ∷ following) → ⊥
 pointers_apart [] [] rest n following f same = false≢true (subst (Follows ends_name) same f)
@@ -98,7 +98,7 @@ named_invert names ps n qs (Some m) bs after following is f same =
     let k = pointers_name qs ps m n (brackets_text bs after) following same in
     (bs, ap (λ (r : List PointerWord). tail_of r (Some m) bs) k.0 ∙ ap (λ (r : List ℕ). tail_of ps (Some r) bs) k.1, is, sym k.2)
 
--- the pointers and the name of a parameter were taken: what is left are its bounds
+-- the pointers and the name of a parameter were taken: its bounds remain
 pub named_tail : (names : Names) (limit : ℕ) (ps : List PointerWord) (n : List ℕ) → IsTrue (is_pointer ps) → IsFree names n
     → Tail (ParameterTails names) (Brackets names (Unit {0})) limit limit (pointers_text ps (token.Name n ∷ [])) (tail_of ps (Some n)) (λ rest. Unit {0})
 named_tail names limit ps n p free = record {
@@ -118,7 +118,7 @@ named_tail names limit ps n p free = record {
   rises = λ part high. high;
 }
 
--- neither a pointer's word nor a name that may be declared stands first
+-- the first token is neither a pointer's nor a name that may be declared
 abbrev pub HasNoName : Names → Kinds → Type 0
 HasNoName names following = (first : TokenKind) (more : Kinds) → following ≡ first ∷ more → IsNoName (IsFree names) first
 
@@ -157,7 +157,7 @@ unnamed_invert names ps qs (Some m) bs after following none free is f same =
     let k = pointers_rest names ps qs (Some m) bs after following none free f same in
     absurd ((none (token.Name m) (brackets_text bs after) (sym k.1)).no_name m refl free)
 
--- the pointers of a parameter were taken, and no name stands after them: what is left are its bounds
+-- the pointers of a parameter were taken, and no name follows them: its bounds remain
 pub unnamed_tail : (names : Names) (limit : ℕ) (ps : List PointerWord) → IsTrue (is_pointer ps)
     → Tail (ParameterTails names) (Brackets names (Unit {0})) limit limit (pointers_text ps []) (tail_of ps None) (HasNoName names)
 unnamed_tail names limit ps p = record {
@@ -185,7 +185,7 @@ parameter_tails_law names = λ t x y.
 abbrev pub parameter_tails_least : (names : Names) → Least (ParameterTails names)
 parameter_tails_least names = record { tree = tail_of [] None []; is_phrase = (refl, (tt, tt)); below = λ other is. omega arith }
 
--- a parameter of its parts
+-- the parameter with these parts
 abbrev pub parameter_of : Specs → ParameterTail → Parameter
 parameter_of specs t = record { specs = specs; pointers = t.0; name = t.1.0; bounds = t.1.1 }
 

@@ -32,7 +32,7 @@ use Rattle.cs_grammar.proofs.FileTexts.{name_append}
 abbrev Beside : Roles → Kinds → Type 0
 Beside rs ts = length rs ≡ length ts
 
--- one more of each
+-- one more role and one more token
 one : (r : Role) (t : TokenKind) (rs : Roles) (ts : Kinds) → Beside rs ts → Beside (r ∷ rs) (t ∷ ts)
 one r t rs ts b = omega (arith, b)
 
@@ -124,7 +124,7 @@ comma_beside : (c : Bool) (rs : Roles) (ts : Kinds) → Beside rs ts → Beside 
 comma_beside false rs ts b = b
 comma_beside true rs ts b = omega (arith, b)
 
--- a list of parts that run beside one another
+-- the parts add as many roles as tokens
 abbrev Besides : {A : Type 0} → (A → Roles → Roles) → (A → Kinds → Kinds) → Type 0
 Besides {A} f g = (a : A) (rs : Roles) (ts : Kinds) → Beside rs ts → Beside (f a rs) (g a ts)
 
@@ -146,7 +146,7 @@ brackets_beside (x ∷ bs) rs ts b =
     let k = some_beside x (another ∷ brackets_roles bs rs) (token.Punctuator punctuator.CloseBracket ∷ brackets_text bs ts) (omega (arith, i)) in
     omega (arith, k)
 
--- tokens with one role before others
+-- tokens with one role, before others
 run_beside : (r : Role) (tokens : Kinds) (f : Kinds → Kinds) → ((x : Kinds) → tokens ++ x ≡ f x) → (rs : Roles) (ts : Kinds) → Beside rs ts
     → Beside (each r tokens rs) (f ts)
 run_beside r tokens f same rs ts b = subst (λ (x : Kinds). Beside (each r tokens rs) x) (same ts) (each_beside r tokens rs ts b)

@@ -14,7 +14,7 @@ use Rattle.cs_grammar.proofs.Holes.{Lawful, splits, Tail, tail_refused, tail_too
 use Rattle.cs_grammar.proofs.Tails.{tail_then, tail_as, Least, Production, production_tail}
 use Rattle.cs_grammar.proofs.Sequences.{Joins, sequence_law, sequence_least, first_refused, second_tail, second_wrong, took_exact}
 
--- phrases of L are rows of phrases of C; the end of a row isn't taken for a phrase of C
+-- phrases of L are lists of phrases of C; the end of a list isn't mistaken for a phrase of C
 pub record Listing (L C : Class) : Type 0 where
   pub none : L.Tree
   pub more : C.Tree → L.Tree → L.Tree
@@ -29,7 +29,7 @@ pub record Listing (L C : Class) : Type 0 where
   pub apart : (c : C.Tree) (x after : Kinds) → C.Is c → L.Shut none after → C.spell c x ≡ L.spell none after → ⊥
   pub law : Lawful C
 
--- a phrase of a row was taken: what is left is a row
+-- a phrase of a list was taken: a list remains
 pub row_tail : (L C : Class) (limit : ℕ) (all : Listing L C) (c : C.Tree) (next : TokenKind) (deep : Bool) → Took C limit c next deep
     → (deep ≡ true → C.Shut c (next ∷ [])) → Tail L L limit limit (C.spell c []) (all.more c) (Near next)
 row_tail L C limit all c next deep t settled =
@@ -63,7 +63,7 @@ row_tail L C limit all c next deep t settled =
       rises = λ part high. let m = all.tall_more c part in omega (arith, m, high);
     }
 
--- a phrase of a row was refused, and not at what ends the row
+-- a phrase of a list was refused, and the refused tokens don't end the list
 pub row_refused : (L C : Class) (limit : ℕ) (all : Listing L C) (front : Kinds) (next : TokenKind) (deep : Bool)
     → ((after following : Kinds) → L.Shut all.none after → Near next following → L.spell all.none after ≡ front ++ following → ⊥)
     → Refused C limit front next deep → Refused L limit front next deep
@@ -110,7 +110,7 @@ row_refused L C limit all front next deep unended r = record {
 abbrev pub comma_token : TokenKind
 comma_token = token.Punctuator punctuator.Comma
 
--- phrases of D may stand between commas, before this token
+-- phrases of D may be separated by commas, before this token
 pub record Separates (D : Class) (close : TokenKind) : Type 0 where
   pub law : Lawful D
   pub least : Least D
@@ -224,7 +224,7 @@ before_append D law [] x y = refl
 before_append D law (d ∷ ds) x y = law d (comma_token ∷ before_commas D.spell ds x) y
     ∙ ap (λ (r : Kinds). D.spell d (comma_token ∷ r)) (before_append D law ds x y)
 
--- phrases of a row with a comma after each were taken: what is left is a phrase and others
+-- phrases of a list with a comma after each were taken: another phrase remains, and what follows it
 abbrev pub SoFar : (D : Class) → TokenKind → ℕ → List D.Tree → Type 0
 SoFar D close limit done = Tail (Separated D close) (Sequence D (Further D close)) limit limit (before_commas D.spell done [])
     (λ part. done ++ part.0 ∷ part.1) (λ rest. Unit {0})
@@ -235,7 +235,7 @@ sequence_further_law D close law = sequence_law D (Further D close) law (further
 abbrev further_pair_least : (D : Class) (close : TokenKind) → Least D → Least (Sequence D (Further D close))
 further_pair_least D close least = sequence_least D (Further D close) least (further_least D close)
 
--- at the beginning of a row
+-- at the beginning of a list
 pub so_far_none : (D : Class) (close : TokenKind) (limit : ℕ) → (s : Separates D close) → D.tall s.least.tree ≤ limit → SoFar D close limit []
 so_far_none D close limit s fits =
     production_tail (Separated D close) (Sequence D (Further D close)) 0 [] (λ part. part.0 ∷ part.1) (λ rest. Unit {0}) limit limit (omega arith)
@@ -247,7 +247,7 @@ last_tail : (D : Class) (close : TokenKind) (limit : ℕ) → (s : Separates D c
 last_tail D close limit s last next deep t shut =
     second_tail D (Further D close) limit s.law (further_joins D close s) (further_least D close) (omega arith) last next deep t (λ reported. shut)
 
--- a phrase was taken, and a comma stands after it
+-- a phrase was taken, and a comma follows it
 pub so_far_more : (D : Class) (close : TokenKind) (limit : ℕ) → (s : Separates D close) → D.tall s.least.tree ≤ limit
     → (done : List D.Tree) (last : D.Tree) (deep : Bool) → SoFar D close limit done → Took D limit last comma_token deep
     → SoFar D close limit (done ++ last ∷ [])
@@ -268,7 +268,7 @@ so_far_more D close limit s fits done last deep so_far t =
     ∙ ap (λ (x : Kinds). before_commas D.spell done x) (s.law last [] (comma_token ∷ [])) ∙ sym (before_more D done last []))
     (λ part. sym (append_assoc done (last ∷ []) (part.0 ∷ part.1))) (λ following fit. tt)
 
--- a phrase of the row was refused
+-- a phrase of the list was refused
 pub so_far_refused : (D : Class) (close : TokenKind) (limit : ℕ) → (s : Separates D close) → (done : List D.Tree) → SoFar D close limit done
     → (front : Kinds) (next : TokenKind) (deep : Bool) → Refused D limit front next deep
     → Refused (Separated D close) limit (before_commas D.spell done [] ++ front) next deep
@@ -277,7 +277,7 @@ so_far_refused D close limit s done so_far front next deep r =
     (λ rest. Unit {0}) (sequence_further_law D close s.law) so_far front next deep (λ following near. tt)
     (first_refused D (Further D close) limit s.law (further_joins D close s) (further_least D close) (omega arith) front next deep r)
 
--- a phrase was taken, and neither a comma nor what closes the row stands after it
+-- a phrase was taken, and neither a comma nor the closing token follows it
 pub so_far_wrong : (D : Class) (close : TokenKind) (limit : ℕ) → (s : Separates D close) → (done : List D.Tree) → SoFar D close limit done
     → (last : D.Tree) (next : TokenKind) (deep : Bool) → Took D limit last next deep → (next ≡ comma_token → ⊥) → (next ≡ close → ⊥)
     → Refused (Separated D close) limit (before_commas D.spell done [] ++ D.spell last []) next deep
@@ -287,7 +287,7 @@ so_far_wrong D close limit s done so_far last next deep t comma closed =
     (second_wrong D (Further D close) limit s.law (further_joins D close s) (further_least D close) (omega arith) last next deep t
     (λ d after is same. further_some D close d after same) (λ d after more is same. further_first D close next comma closed d after more same))
 
--- a phrase was taken, and what closes the row stands after it
+-- a phrase was taken, and the closing token follows it
 pub so_far_took : (D : Class) (close : TokenKind) (limit : ℕ) → (s : Separates D close) → (done : List D.Tree) → SoFar D close limit done
     → (last : D.Tree) (deep : Bool) → Took D limit last close deep
     → (next : TokenKind) → Took (Separated D close) limit (done ++ last ∷ []) next false
@@ -300,7 +300,7 @@ so_far_took D close limit s done so_far last deep t next =
     (further_law D close s.law) two [] next false (λ following near. inr (following, refl))
     (exact_took (Further D close) limit [] (further_exact D close limit s.differs) next)
 
--- the same, whatever stands after
+-- the same, whatever follows
 pub so_far_exact : (D : Class) (close : TokenKind) (limit : ℕ) → (s : Separates D close) → (done : List D.Tree) → SoFar D close limit done
     → (last : D.Tree) (deep : Bool) → Took D limit last close deep → Exactly (Separated D close) limit (done ++ last ∷ [])
 so_far_exact D close limit s done so_far last deep t =

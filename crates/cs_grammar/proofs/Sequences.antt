@@ -9,7 +9,7 @@ use Rattle.cs_grammar.specs.Composed.{Sequence, Following}
 use Rattle.cs_grammar.proofs.Holes.{Lawful, splits, Tail, tail_refused, tail_took, ClosedBy, Ended}
 use Rattle.cs_grammar.proofs.Tails.{first_or, near_first, Least, Production, production_tail, none_refused}
 
--- a phrase of C may stand before any of D
+-- any phrase of D may follow one of C
 abbrev pub Joins : Class → Class → Type 0
 Joins C D = (c : C.Tree) (d : D.Tree) (after : Kinds) → C.Is c → D.Is d → D.Shut d after → C.Shut c (D.spell d after)
 
@@ -55,7 +55,7 @@ first_refused C D limit law joins least fits front next deep r = record {
       };
 }
 
--- the first of two was taken before a token that may stand after it: what is left is the second
+-- the first of two was taken before a token that may follow it: the second remains
 pub second_tail : (C D : Class) (limit : ℕ) → Lawful C → Joins C D → (least : Least D) → D.tall least.tree ≤ limit
     → (c : C.Tree) (next : TokenKind) (deep : Bool) → Took C limit c next deep → (deep ≡ true → C.Shut c (next ∷ []))
     → Tail (Sequence C D) D limit limit (C.spell c []) (λ d. (c, d)) (Near next)
@@ -123,7 +123,7 @@ closed_least D t least = record { tree = least.tree; is_phrase = least.is_phrase
 abbrev pub ended_least : Least Ended
 ended_least = record { tree = tt; is_phrase = tt; below = λ other is. omega arith }
 
--- the token stands there: what is left is the phrase after it
+-- the next token is this one: the phrase after it remains
 pub after_tail : (t : TokenKind) (D : Class) (limit : ℕ) → (least : Least D) → D.tall least.tree ≤ limit
     → Tail (Following t D) D limit limit (t ∷ []) (λ d. d) (λ rest. Unit {0})
 after_tail t D limit least fits = record {
@@ -136,11 +136,11 @@ after_tail t D limit least fits = record {
   rises = λ part high. high;
 }
 
--- another token stands there
+-- the next token is another one
 pub after_wrong : (t : TokenKind) (D : Class) (limit : ℕ) (next : TokenKind) → (next ≡ t → ⊥) → Refused (Following t D) limit [] next false
 after_wrong t D limit next other = none_refused (Following t D) limit next (λ o after is same. cc) (λ o after more is same. other cc)
 
--- the first of two was taken, whatever stands after it: what is left is the second
+-- the first of two was taken, whatever follows it: the second remains
 pub exact_tail : (C D : Class) (limit : ℕ) → Lawful C → (least : Least D) → D.tall least.tree ≤ limit → (c : C.Tree) → Exactly C limit c
     → Tail (Sequence C D) D limit limit (C.spell c []) (λ d. (c, d)) (λ rest. Unit {0})
 exact_tail C D limit law least fits c e =
@@ -179,7 +179,7 @@ exact_then_took C D limit lc ld least fits c e d next deep t =
     tail_took (Sequence C D) D limit limit (C.spell c []) (λ d. (c, d)) (λ rest. Unit {0}) ld (exact_tail C D limit lc least fits c e) d next deep
     (λ following near. tt) t
 
--- both were taken, whatever stands after them
+-- both were taken, whatever follows them
 pub exact_both : (C D : Class) (limit : ℕ) → (c : C.Tree) (d : D.Tree) → Exactly C limit c → Exactly D limit d → Exactly (Sequence C D) limit (c, d)
 exact_both C D limit c d ec ed =
     let lc = ec.low in
@@ -193,7 +193,7 @@ exact_both C D limit c d ec ed =
           (ap (λ (x : C.Tree). (x, other.1)) k.0 ∙ ap (λ (y : D.Tree). (c, y)) l.0, l.1);
     }
 
--- the same where the first of two was taken before a token that may stand after it
+-- the same if the first of two was taken before a token that may follow it
 pub then_refused : (C D : Class) (limit : ℕ) → Lawful C → Lawful D → Joins C D → (least : Least D) → D.tall least.tree ≤ limit
     → (c : C.Tree) (first : TokenKind) (deep : Bool) → Took C limit c first deep → (deep ≡ true → C.Shut c (first ∷ []))
     → (front : Kinds) (next : TokenKind) (deep' : Bool) → first_or front next ≡ first → Refused D limit front next deep'
@@ -211,7 +211,7 @@ then_took C D limit lc ld joins least fits c first deep t settled d next deep' s
     next deep'
     (λ following near. subst (λ (x : Kinds). Near first x) (ld d [] following) (near_first (D.spell d []) next first starts following near)) t'
 
--- a phrase of D was taken, and nothing of C but D begins so: for productions
+-- a phrase of D was taken, and only phrases of C that are built of one have this beginning: for productions
 pub made_refused : (C D : Class) (plus : ℕ) (before : Kinds) (build : D.Tree → C.Tree) (Fit : Kinds → Type 0) (limit inner : ℕ)
     → limit ≡ plus + inner → Production C D plus before build Fit → (least : Least D) → D.tall least.tree ≤ inner → Lawful D
     → (front : Kinds) (next : TokenKind) (deep : Bool) → ((following : Kinds) → Near next following → Fit (front ++ following))
@@ -226,7 +226,7 @@ pub made_took : (C D : Class) (plus : ℕ) (before : Kinds) (build : D.Tree → 
 made_took C D plus before build Fit limit inner less p least fits law part next deep fit t =
     tail_took C D limit inner before build Fit law (production_tail C D plus before build Fit limit inner less p least fits) part next deep fit t
 
--- what was taken before a token that may stand after it was taken within a smaller limit too, if it fits
+-- what was taken before a token that may follow it was taken within a smaller limit too, if it isn't higher
 pub took_lower : (C : Class) (limit inner : ℕ) (c : C.Tree) (next : TokenKind) (deep : Bool) → Took C limit c next deep
     → (deep ≡ true → C.Shut c (next ∷ [])) → C.tall c ≤ inner → Took C inner c next false
 took_lower C limit inner c next deep t settled fits = record {
@@ -252,7 +252,7 @@ each_took C limit c took shut some other after (t ∷ following) is same =
       | inr over ↦ absurd (false≢true over.reported)
     ]
 
--- what was taken before every token, and may stand before any, is determined by its tokens
+-- what was taken before every token, and may be followed by any, is determined by its tokens
 pub took_exact : (C : Class) (limit : ℕ) (c : C.Tree) → ((next : TokenKind) → Took C limit c next false)
     → ((other : C.Tree) (after : Kinds) → C.Shut other after) → (some : TokenKind) → Exactly C limit c
 took_exact C limit c took shut some = record {

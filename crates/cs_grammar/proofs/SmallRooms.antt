@@ -35,7 +35,7 @@ use Rattle.cs_grammar.proofs.Bodies.{MemberGroup, constant_of, constant_some, fi
 use Rattle.cs_grammar.proofs.ExternalSites.{begins_spec, first_begins, specs_first}
 use Rattle.cs_grammar.proofs.FileRules.{specs_has}
 
--- where no word continues with others, none with a body and no `static` does, if the next token is no `static`
+-- if no word continues these, no type with a body and no `static` does, unless the next token is `static`
 pub stuck_after : (names : Names) (ws : List TypeWord) (next : TokenKind) → IsStuckAt names ws next → (next ≡ token.Keyword keyword.Static → ⊥)
     → IsStuckAfter names ws next
 stuck_after names ws next stuck none Static more e = absurd (none (sym e))
@@ -43,7 +43,7 @@ stuck_after names ws next stuck none (Plain w) more e = stuck w more e
 stuck_after names ws next stuck none (StructBody tag members) more e = stuck (word.Struct []) more e
 stuck_after names ws next stuck none (EnumBody tag constants comma) more e = stuck (word.Enum []) more e
 
--- the token begins what stands before declarators outside blocks
+-- the token begins specifiers outside blocks
 abbrev pub begins_file_spec : Names → TokenKind → Bool
 begins_file_spec names (token.Keyword keyword.Static) = true
 begins_file_spec names other = begins_type names other
@@ -56,7 +56,7 @@ plain_words_of : (ws : List TypeWord) → words_of (specs_of ws) ≡ ws
 plain_words_of [] = refl
 plain_words_of (w ∷ ws) = ap (λ (x : List TypeWord). w ∷ x) (plain_words_of ws)
 
--- what stands before declarators and begins with a token
+-- specifiers that begin with a token
 pub record SpecsExample (names : Names) (t : TokenKind) : Type 0 where
   pub specs : Specs
   pub are : AreSpecs names specs
@@ -135,7 +135,7 @@ group_full names limit next full e =
       spelled = x.spelled (token.Name [] ∷ semicolon ∷ []);
     })
 
--- the first token of a member was refused
+-- a member was refused at its first token
 pub members_first_refused : (names : Names) (limit : ℕ) (next : TokenKind) (deep : Bool) → (next ≡ close_brace → ⊥)
     → Refused (MemberGroups names) limit [] next deep → Refused (MemberRows names) limit [] next deep
 members_first_refused names limit next deep other r =
@@ -164,7 +164,7 @@ enum_over names limit tag full s after more has quiet same =
     let h = enum_high names f.0.0 f.2.0 in
     subst (λ (x : Spec). limit < spec_height x) (sym f.1) (omega (arith, h, full))
 
--- something stands after `enum`
+-- no specifier is only `enum`
 enum_cut : (s : Spec) (after : Kinds) → spec_text s after ≡ tag_word false ∷ [] → ⊥
 enum_cut Static after same = cc
 enum_cut (Plain word.Const) after same = cc
@@ -248,7 +248,7 @@ enum_only names limit before tag full none exact other after (t ∷ following) i
     let h = enum_rest names limit before tag full r.0 after following has f r.2 in
     inr (record { reported = refl; high = subst (λ (x : Specs). limit < specs_height x) (sym r.1) h; onward = λ z. cc })
 
--- an `enum` with a tag, and a brace that the limit doesn't allow: it is taken without a body, and a higher one goes on
+-- an `enum` with a tag, and a brace that the limit doesn't allow: it is taken without a body, and a higher one continues
 pub enum_tag_full : (names : Names) (limit : ℕ) (before : Specs) (tag : List ℕ) → limit < 2 → specs_height (with_enum before tag) ≤ limit
     → named_by (words_of before) ≡ [] → AreExact names before → Took (FileSpecs names) limit (with_enum before tag) open_brace true
 enum_tag_full names limit before tag full low none exact = record {

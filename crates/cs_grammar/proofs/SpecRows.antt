@@ -21,7 +21,7 @@ use Rattle.cs_grammar.proofs.FileTexts.{specs_append}
 use Rattle.cs_grammar.proofs.WordsOfTypes.{named_more}
 use Rattle.cs_grammar.proofs.TypeNames.{first_token, MayGoOn, type_and_name, tag_word}
 
--- the words of one
+-- the words of a specifier
 abbrev pub spec_words : Spec → List TypeWord
 spec_words Static = []
 spec_words (Plain w) = w ∷ []
@@ -70,7 +70,7 @@ pub joined_tall : (done rest : Specs) → specs_height (joined_specs done rest) 
 joined_tall NoSpec rest = omega arith
 joined_tall (MoreSpecs d ds) rest = let h = joined_tall ds rest in omega (arith, h)
 
--- the first token of each
+-- the first token of a specifier
 abbrev pub first_of : Spec → TokenKind
 first_of Static = token.Keyword keyword.Static
 first_of (Plain w) = first_token w
@@ -93,7 +93,7 @@ spec_starts (EnumBody tag constants comma) x = (
   refl,
 )
 
--- the first word or `static` of some tokens, and what stands after it, where no type with a body stands there
+-- the first word or `static` of some tokens, and what follows it, if no type with a body begins there
 abbrev read_spec : Kinds → Option (Spec × Kinds)
 read_spec (token.Keyword keyword.Static ∷ rest) = Some (Static, rest)
 read_spec (token.Keyword keyword.Const ∷ rest) = Some (Plain word.Const, rest)
@@ -151,7 +151,7 @@ abbrev second_read : Option (Spec × Kinds) → Kinds
 second_read None = []
 second_read (Some both) = both.1
 
--- one is determined by its tokens
+-- a specifier is determined by its tokens
 abbrev pub IsExactSpec : Names → Spec → Type 0
 IsExactSpec names s = (t : Spec) (x y : Kinds) → HasBody names t → IsQuiet t x → IsQuiet s y → spec_text t x ≡ spec_text s y
     → (t ≡ s) × (x ≡ y)
@@ -181,7 +181,7 @@ static_exact names = simple_exact names Static (λ y quiet. refl)
 pub plain_exact : (names : Names) (w : TypeWord) → IsExactSpec names (Plain w)
 plain_exact names w = simple_exact names (Plain w) (λ y quiet. read_plain w y quiet)
 
--- each is determined by its tokens
+-- each specifier is determined by its tokens
 abbrev pub AreExact : Names → Specs → Type 0
 AreExact names NoSpec = Unit {0}
 AreExact names (MoreSpecs s others) = HasBody names s × IsExactSpec names s × AreExact names others
@@ -195,7 +195,7 @@ pub exact_bodies : (names : Names) (done : Specs) → AreExact names done → Ha
 exact_bodies names NoSpec a = tt
 exact_bodies names (MoreSpecs d ds) a = (a.0, exact_bodies names ds a.2)
 
--- no opening brace stands after the last one, if that is a tag
+-- no opening brace follows the last one, if that is a tag
 abbrev pub EndsQuiet : Specs → Kinds → Type 0
 EndsQuiet NoSpec after = Unit {0}
 EndsQuiet (MoreSpecs s NoSpec) after = IsQuiet s after
@@ -250,7 +250,7 @@ pub specs_no_brace : (ts : Specs) (after : Kinds) → Follows ends_specs after �
 specs_no_brace NoSpec after f = follows_no_brace after f
 specs_no_brace (MoreSpecs t ts) after f = spec_no_brace t (specs_text ts after)
 
--- only a typedef name is both one of these and what may stand after them
+-- only a typedef name is both a specifier and what may follow specifiers
 spec_ends : (s : Spec) → ends_specs (first_of s) ≡ true → (n : List ℕ) × (spec_words s ≡ word.Typedef n ∷ [])
 spec_ends (Plain (word.Typedef n)) e = (n, refl)
 spec_ends Static e = absurd (false≢true e)
@@ -267,7 +267,7 @@ spec_ends (Plain (word.Enum tag)) e = absurd (false≢true e)
 spec_ends (StructBody tag members) e = absurd (false≢true e)
 spec_ends (EnumBody tag constants comma) e = absurd (false≢true e)
 
--- what stands before declarators and begins as these continues with more of them
+-- specifiers that begin with the tokens of these continue with more specifiers
 pub specs_go_on : (names : Names) (before : List TypeWord) (done other : Specs) (after following : Kinds) → MayGoOn names (before ++ words_of done)
     → is_type names (before ++ words_of other) ≡ true → HaveBodies names other → AreExact names done → Follows ends_specs after
     → EndsQuiet done following → specs_text other after ≡ specs_text done following
@@ -295,7 +295,7 @@ specs_go_on names before (MoreSpecs s ds) (MoreSpecs t ts) after following go ty
     let r = specs_go_on names (before ++ spec_words s) ds ts after following go' type' has.1 exact.2 f (quiet_rest s ds following quiet) k.1 in
     (r.0, ap (λ (x : Spec). MoreSpecs x ts) k.0 ∙ ap (MoreSpecs s) r.1, r.2)
 
--- none that begins with the token continues with these
+-- no specifier that begins with the token continues these words
 abbrev pub IsStuckAfter : Names → List TypeWord → TokenKind → Type 0
 IsStuckAfter names ws next = (one : Spec) (more : List TypeWord) → first_of one ≡ next → is_type names (ws ++ (spec_words one ++ more)) ≡ false
 
@@ -324,7 +324,7 @@ specs_only names done next go exact stuck quiet other after following is f near 
     let e = no_more names done next r.0 after following stuck (ap (λ (x : Specs). is_type names (words_of x)) (sym r.1) ∙ is.0) near r.2 in
     (r.1 ∙ ap (joined_specs done) e.0 ∙ specs_joined_none done, e.1)
 
--- what stands before declarators outside blocks was taken, as many words as there are
+-- specifiers outside blocks were taken, as many as there are
 pub specs_took : (names : Names) (limit : ℕ) (done : Specs) (next : TokenKind) → specs_height done ≤ limit → is_type names (words_of done) ≡ true
     → AreExact names done → IsStuckAfter names (words_of done) next → ((following : Kinds) → Near next following → EndsQuiet done following)
     → Took (FileSpecs names) limit done next false
@@ -337,7 +337,7 @@ specs_took names limit done next low type exact stuck quiet = record {
   joined = λ reported more shut. false≢true reported;
 }
 
--- words that name no type yet, and none that continues with them
+-- words that name no type yet, and that no specifier continues
 pub specs_refused : (names : Names) (limit : ℕ) (done : Specs) (next : TokenKind) → specs_height done ≤ limit → 1 ≤ limit
     → is_type names (words_of done) ≡ false → named_by (words_of done) ≡ [] → AreExact names done → IsStuckAfter names (words_of done) next
     → ((following : Kinds) → Near next following → EndsQuiet done following) → Refused (FileSpecs names) limit (specs_text done []) next false

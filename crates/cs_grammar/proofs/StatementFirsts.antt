@@ -162,7 +162,7 @@ sentence_example names (token.Keyword k) e = keyword_sentence names k e
 sentence_example names (token.Unsupported w) e = absurd cc
 sentence_example names token.Attribute e = absurd cc
 
--- a statement has some token
+-- a statement has at least one token
 pub sentence_has : (names : Names) (s : Sentence) (after : Kinds) → IsSentence names s → sentence_text s after ≡ [] → ⊥
 sentence_has names s after is same = some_first begins_sentence (sentence_text s after) (sentence_begins names s after is) same
 
@@ -179,7 +179,7 @@ sentence_none names limit next full e =
     full_refused (Sentences names) limit next (sentence_has names) (λ s after more is same. let h = sentence_some s in omega (arith, h, full))
     (sentence_example names next e)
 
--- the token begins statements with no expression and no statement inside
+-- the token begins a statement without an expression or statement inside
 abbrev pub begins_low : TokenKind → Bool
 begins_low (token.Punctuator punctuator.OpenBrace) = true
 begins_low (token.Punctuator punctuator.Semicolon) = true
@@ -210,7 +210,7 @@ two_high names Continue after t more same l = absurd (not_low (word keyword.Cont
 two_high names Break after t more same l = absurd (not_low (word keyword.Break) t (semicolon ∷ after) more same l refl)
 two_high names (Return v) after t more same l = absurd (not_low (word keyword.Return) t (some_text v (semicolon ∷ after)) more same l refl)
 
--- the limit allows a statement without parts alone, and the token begins none
+-- the limit allows only a statement without parts, and the token begins none
 pub sentence_low : (names : Names) (limit : ℕ) (next : TokenKind) → limit < 2 → begins_sentence next ≡ true → begins_low next ≡ false
     → Refused (Sentences names) limit [] next true
 sentence_low names limit next full e l =
@@ -226,7 +226,7 @@ other_word : (k : Keyword) → is_sizeof k ≡ true → begins_other_sentence (t
 other_word keyword.Sizeof e = refl
 other_word _ e = absurd cc
 
--- what begins an expression begins no other statement
+-- a token that begins an expression begins no other statement
 pub no_other : (names : Names) (t : TokenKind) → begins_expression names t ≡ true → begins_other_sentence t ≡ false
 no_other names (token.Name n) e = refl
 no_other names (token.Number n) e = refl
@@ -237,7 +237,7 @@ no_other names (token.Keyword k) e = other_word k e
 no_other names (token.Unsupported w) e = absurd cc
 no_other names token.Attribute e = absurd cc
 
--- the next token begins no other statement and is no name
+-- the next token begins no other statement and isn't a name
 pub record IsPlainNext (next : TokenKind) : Type 0 where
   pub plain : begins_other_sentence next ≡ false
   pub no_name : (n : List ℕ) → next ≡ token.Name n → ⊥
@@ -275,7 +275,7 @@ run_label names limit f (g ∷ gs) following next n more b other near same =
     let k : f ≡ token.Name n = cc in
     second_colon names limit n g gs (subst (λ (x : TokenKind). BeginsLow (Expressions names 0) limit (x ∷ g ∷ gs)) k b) cc
 
--- tokens of an expression that was refused begin no other statement and no label
+-- the tokens of a refused expression begin no other statement and no label
 run_fits : (names : Names) (limit : ℕ) (front : Kinds) (next : TokenKind) (deep : Bool) → (front ≡ [] → IsPlainNext next)
     → ((n : List ℕ) → front ≡ token.Name n ∷ [] → next ≡ colon → ⊥) → Refused (Expressions names 0) limit front next deep
     → (following : Kinds) → Near next following → IsRun (front ++ following)
@@ -310,7 +310,7 @@ text_run names e x following is other = record {
   unlabelled = λ n more same. let f = name_colon e x n more same in other n more f.0 f.1;
 }
 
--- the expression was taken, and no semicolon stands after it
+-- the expression was taken, and no semicolon follows it
 pub runs_wrong : (names : Names) (limit inner : ℕ) → limit ≡ 1 + inner → 1 ≤ inner
     → (e : Written) (next : TokenKind) (deep : Bool) → Took (Expressions names 0) inner e next deep → (next ≡ semicolon → ⊥)
     → ((n : List ℕ) → e ≡ Named n → next ≡ colon → ⊥) → Refused (Sentences names) limit (text e []) next deep
@@ -340,7 +340,7 @@ lone_never names n next among no_colon (Runs e) after following is near same =
 lone_never names n next among no_colon (Label m b) after following is near same = near_other colon next following (sentence_text b after) no_colon near cc
 lone_never names n next among no_colon _ after following is near same = cc
 
--- a typedef name begins a statement as a label alone
+-- a typedef name begins a statement only as a label
 pub lone_refused : (names : Names) (limit : ℕ) (n : List ℕ) (next : TokenKind) → 2 ≤ limit → is_among names n ≡ true → (next ≡ colon → ⊥)
     → Refused (Sentences names) limit (token.Name n ∷ []) next false
 lone_refused names limit n next some among no_colon = record {

@@ -26,7 +26,7 @@ use Rattle.cs_grammar.proofs.Pairs.{pair_took}
 use Rattle.cs_grammar.proofs.Statements.{open_parenthesis, close_parenthesis, semicolon, colon, word, SomeBefore, ForParts, for_production}
 use Rattle.cs_grammar.proofs.StatementParts.{sentence_some, expression_least, sentences_least, firsts_least, sentences_law, firsts_law, if_pair}
 
--- an expression between parentheses: no parenthesis stands there
+-- an expression between parentheses: the next token isn't a parenthesis
 pub tests_missing : (names : Names) (limit : ℕ) (next : TokenKind) → (next ≡ open_parenthesis → ⊥) → Refused (Tests names) limit [] next false
 tests_missing names limit next other = after_wrong open_parenthesis (ClosedBy (Expressions names 0) close_parenthesis) limit next other
 
@@ -47,7 +47,7 @@ tests_refused names limit some front next deep r =
     (closed_test_law names) (test_tail names limit some) front next deep (λ following near. tt)
     (closed_refused (Expressions names 0) close_parenthesis limit (text_law names 0) (λ part more. omega arith) front next deep r)
 
--- no parenthesis stands after the expression
+-- no parenthesis follows the expression
 pub tests_wrong : (names : Names) (limit : ℕ) → 1 ≤ limit
     → (e : Written) (next : TokenKind) (deep : Bool) → Took (Expressions names 0) limit e next deep → (next ≡ close_parenthesis → ⊥)
     → Refused (Tests names) limit (open_parenthesis ∷ text e []) next deep
@@ -63,7 +63,7 @@ tests_exact names limit e deep t =
     let x = closed_exact (Expressions names 0) close_parenthesis limit (λ part more. omega arith) e deep t in
     record { is_phrase = x.is_phrase; low = x.low; exact = λ other after following is same. x.exact other after following is cc }
 
--- a statement with an `else` and an empty statement in it
+-- the statement, with an `else` and an empty statement inside
 pub record Grown (names : Names) (s : Sentence) : Type 0 where
   pub other : Sentence
   pub is_sentence : IsSentence names other
@@ -76,7 +76,7 @@ grown_if names t b true e it ib h =
     let g = h e in
     record { other = If t g.other; is_sentence = (it, g.is_sentence); spelled = λ x. ap (λ (r : Kinds). word keyword.If ∷ test_text t r) (g.spelled x) }
 
--- an open statement takes an `else`
+-- an open statement can take an `else`
 pub takes_else : (names : Names) (s : Sentence) → IsSentence names s → is_open s ≡ true → Grown names s
 takes_else names (If t b) is e = grown_if names t b (is_open b) refl is.0 is.1 (λ o. takes_else names b is.1 o)
 takes_else names (IfElse t b o) is e =
@@ -166,7 +166,7 @@ alone_only names limit s next t other b (Some o) after following is shut near sa
       | inr over ↦ absurd (false≢true over.reported)
     ]
 
--- the statement of an `if` was taken, and no `else` stands after it
+-- the statement of an `if` was taken, and no `else` follows it
 pub branch_alone : (names : Names) (limit : ℕ) (s : Sentence) (next : TokenKind) → Took (Sentences names) limit s next false
     → (next ≡ word keyword.Else → ⊥) → Took (Branches names) limit (s, None) next false
 branch_alone names limit s next t other = record {
@@ -193,7 +193,7 @@ else_invert names limit s t b (Some o) after following is shut same =
       | inr over ↦ absurd (false≢true over.reported)
     ]
 
--- the statement of an `if` was taken, and an `else` stands after it
+-- the statement of an `if` was taken, and an `else` follows it
 pub branch_else : (names : Names) (limit : ℕ) (s : Sentence) → Took (Sentences names) limit s (word keyword.Else) false
     → Tail (Branches names) (Sentences names) limit limit (sentence_text s (word keyword.Else ∷ [])) (λ other. (s, Some other)) (λ rest. Unit {0})
 branch_else names limit s t =
@@ -291,7 +291,7 @@ for_inside names limit inner less some front next deep r =
     (tail_refused (ForParts names) (FirstParts names) inner inner (open_parenthesis ∷ []) (λ d. d) (λ rest. Unit {0}) (first_law names)
     (after_tail open_parenthesis (FirstParts names) inner (first_least names) some) front next deep (λ following near. tt) r)
 
--- no parenthesis stands after `for`
+-- no parenthesis follows `for`
 pub for_missing : (names : Names) (limit inner : ℕ) → limit ≡ 1 + inner → 1 ≤ inner → (next : TokenKind) → (next ≡ open_parenthesis → ⊥)
     → Refused (Sentences names) limit (word keyword.For ∷ []) next false
 for_missing names limit inner less some next other =

@@ -59,7 +59,7 @@ pub runs_first : (names : Names) (e : Written) (after : Kinds) (first : TokenKin
     → begins_expression names first ≡ true
 runs_first names e after first more is same = first_passes (begins_expression names) (text e after) first more (expression_begins names e after is.1) same
 
--- `if` with what stands after its test
+-- `if`, from its test and what follows
 abbrev pub if_of : Written → Sentence → Option Sentence → Sentence
 if_of test body None = If test body
 if_of test body (Some other) = IfElse test body other

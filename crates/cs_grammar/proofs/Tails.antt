@@ -9,18 +9,18 @@ use Rattle.cs_grammar.specs.Text.{Kinds}
 use Rattle.cs_grammar.specs.Parsing.{Class, Near, Begins, Refused}
 use Rattle.cs_grammar.proofs.Holes.{Lawful, Tail}
 
--- the first of these tokens, or the next one where there is none
+-- the first of these tokens, or the next one if there are none
 abbrev pub first_or : Kinds → TokenKind → TokenKind
 first_or [] next = next
 first_or (t ∷ tokens) next = t
 
--- what is near to the next token is near to the first one
+-- tokens that continue with the next token continue with the first one
 pub near_first : (front : Kinds) (next first : TokenKind) → first_or front next ≡ first → (following : Kinds) → Near next following
     → Near first (front ++ following)
 near_first [] next first e following near = elim near [ inl none ↦ inl none | inr m ↦ inr (m.0, m.1 ∙ ap (λ (t : TokenKind). t ∷ m.0) e) ]
 near_first (t ∷ tokens) next first e following near = inr (tokens ++ following, ap (λ (x : TokenKind). x ∷ (tokens ++ following)) e)
 
--- what is near to the next token doesn't begin with another one
+-- tokens that continue with the next token don't begin with another one
 pub near_other : (t next : TokenKind) (following more : Kinds) → (next ≡ t → ⊥) → Near next following → t ∷ more ≡ following → ⊥
 near_other t next following more other near same =
     elim near [ inl none ↦ let z = same ∙ none in cc | inr m ↦ let z : t ∷ more ≡ next ∷ m.0 = same ∙ m.1 in other cc ]
@@ -61,7 +61,7 @@ tail_then C D E limit mid inner before next build build' Fit Fit' law t t' fits 
   rises = λ part high. t.rises (build' part) (t'.rises part high);
 }
 
--- the same tail in other words
+-- the same tail, written differently
 pub tail_as : (C D : Class) (limit inner : ℕ) (before before' : Kinds) (build build' : D.Tree → C.Tree) (Fit Fit' : Kinds → Type 0)
     → Tail C D limit inner before build Fit → before ≡ before' → ((part : D.Tree) → build part ≡ build' part)
     → ((following : Kinds) → Fit' following → Fit following) → Tail C D limit inner before' build' Fit'
@@ -86,7 +86,7 @@ tail_as C D limit inner before before' build build' Fit Fit' t b same fits = rec
   rises = λ part high. subst (λ (w : C.Tree). limit < C.tall w) (same part) (t.rises part high);
 }
 
--- nothing was read yet
+-- nothing has been read yet
 pub tail_start : (C : Class) (limit : ℕ) → Tail C C limit limit [] (λ part. part) (λ rest. Unit {0})
 tail_start C limit = record {
   started = inl refl;
@@ -104,7 +104,7 @@ pub record Least (C : Class) : Type 0 where
   pub is_phrase : C.Is tree
   pub below : (other : C.Tree) → C.Is other → C.tall tree ≤ C.tall other
 
--- the phrases of C that begin with these tokens are made of phrases of D, and so much higher than these
+-- the phrases of C that begin with these tokens are built of phrases of D, and so much higher than these
 pub record Production (C D : Class) (plus : ℕ) (before : Kinds) (build : D.Tree → C.Tree) (Fit : Kinds → Type 0) : Type 0 where
   pub invert : (whole : C.Tree) (after following : Kinds) → C.Is whole → Fit following → C.spell whole after ≡ before ++ following
       → (part : D.Tree) × (whole ≡ build part) × D.Is part × (following ≡ D.spell part after)
@@ -113,7 +113,7 @@ pub record Production (C D : Class) (plus : ℕ) (before : Kinds) (build : D.Tre
   pub is_phrase : (part : D.Tree) → D.Is part → C.Is (build part)
   pub taller : (part : D.Tree) → C.tall (build part) ≡ plus + D.tall part
 
--- where the limit allows the least of them, they are a tail
+-- if the limit allows the lowest of them, they are a tail
 pub production_tail : (C D : Class) (plus : ℕ) (before : Kinds) (build : D.Tree → C.Tree) (Fit : Kinds → Type 0) (limit inner : ℕ)
     → limit ≡ plus + inner → Production C D plus before build Fit → (least : Least D) → D.tall least.tree ≤ inner
     → Tail C D limit inner before build Fit
@@ -133,7 +133,7 @@ production_tail C D plus before build Fit limit inner less p least fits = record
   rises = λ part high. let t = p.taller part in omega (arith, t, high, fits, less);
 }
 
--- where there is none, the first of the tokens is refused, if all phrases that begin with it are at least so high
+-- if it doesn't, the first token is refused, provided that all phrases that begin with it exceed the limit
 pub full_refused : (C : Class) (limit : ℕ) (next : TokenKind) → ((other : C.Tree) (after : Kinds) → C.Is other → C.spell other after ≡ [] → ⊥)
     → ((other : C.Tree) (after more : Kinds) → C.Is other → C.spell other after ≡ next ∷ more → limit < C.tall other) → Begins C (next ∷ [])
     → Refused C limit [] next true

@@ -29,7 +29,7 @@ pointers_append [] x y = refl
 pointers_append (p ∷ ps) x y = ap (λ r. pointer_word_text p ∷ r) (pointers_append ps x y)
 
 mutual
-  -- what stands after a text may be cut off
+  -- what follows a text may be cut off
   pub text_append : (e : Written) (x y : Kinds) → text e x ++ y ≡ text e (x ++ y)
   text_append (Named name) x y = refl
   text_append (Numeral constant) x y = refl
@@ -94,11 +94,11 @@ type_append ws ps es x y =
     words_append ws (pointers_text ps (bounds_text es x)) y
     ∙ ap (words_text ws) (pointers_append ps (bounds_text es x) y ∙ ap (pointers_text ps) (bounds_append es x y))
 
--- a text and what stands after it, apart
+-- a text and what follows it, split
 pub text_splits : (e : Written) (x : Kinds) → text e x ≡ text e [] ++ x
 text_splits e x = sym (text_append e [] x)
 
--- what stands after a text is determined by the whole
+-- what follows a text is determined by the whole
 pub text_cancel : (e : Written) (x y : Kinds) → text e x ≡ text e y → x ≡ y
 text_cancel e x y same = append_cancel_left (text e []) x y (sym (text_splits e x) ∙ same ∙ text_splits e y)
 

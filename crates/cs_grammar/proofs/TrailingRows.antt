@@ -14,7 +14,7 @@ use Rattle.cs_grammar.proofs.Tails.{tail_then, tail_as, Least, Production, produ
 use Rattle.cs_grammar.proofs.Sequences.{Joins, sequence_law, sequence_least, first_refused, second_tail, second_wrong, took_exact}
 use Rattle.cs_grammar.proofs.Rows.{Separates, comma_token, before_commas, before_more, before_append, separated_below}
 
--- what stands after a comma: nothing but the token that closes the row, or a phrase of D and others
+-- what follows a comma: only the token that closes the list, or a phrase of D and others
 abbrev pub Rest : Class → Type 0
 Rest D = Option (D.Tree × (List D.Tree × Bool))
 
@@ -33,7 +33,7 @@ IsRest D (Some row) = D.Is row.0 × AreAll D.Is row.1.0
 abbrev pub AfterComma : Class → TokenKind → Class
 AfterComma D close = record { Tree = Rest D; spell = rest_text D close; tall = rest_height D; Is = IsRest D; Shut = λ rest after. Unit {0} }
 
--- the token that closes a row begins no phrase of it
+-- the token that closes a list begins no phrase of it
 abbrev pub NoneCloses : Class → TokenKind → Type 0
 NoneCloses D close = (d : D.Tree) (after more : Kinds) → D.Is d → D.spell d after ≡ close ∷ more → ⊥
 
@@ -98,7 +98,7 @@ trailing_production D close = record {
   taller = λ part. omega arith;
 }
 
--- what stands after a comma, as a row that a comma precedes
+-- what follows a comma, as a list after the comma
 abbrev after_comma : (D : Class) → Rest D → List D.Tree × Bool
 after_comma D None = ([], true)
 after_comma D (Some row) = row_of D row
@@ -137,7 +137,7 @@ comma_production D close differs = record {
   taller = λ part. rest_taller D part;
 }
 
--- the token that closes the row doesn't stand first
+-- the first token doesn't close the list
 abbrev pub NotClosed : TokenKind → Kinds → Type 0
 NotClosed close following = (more : Kinds) → following ≡ close ∷ more → ⊥
 
@@ -162,35 +162,35 @@ pair_law D close law = sequence_law D (FurtherTrailing D close) law (further_tra
 abbrev pair_least : (D : Class) (close : TokenKind) → Least D → Least (Sequence D (FurtherTrailing D close))
 pair_least D close least = sequence_least D (FurtherTrailing D close) least (further_trailing_least D close)
 
--- phrases so far, and a phrase with others after them
+-- phrases so far, followed by a phrase and others
 abbrev pub rows_of : (D : Class) → List D.Tree → D.Tree × (List D.Tree × Bool) → List D.Tree × Bool
 rows_of D done part = (done ++ part.0 ∷ part.1.0, part.1.1)
 
--- phrases so far, each with a comma after it, and what stands after the last of these
+-- phrases so far, each with a comma after it, followed by what comes after the last comma
 abbrev pub commas_of : (D : Class) → List D.Tree → Rest D → List D.Tree × Bool
 commas_of D done rest = (done ++ (after_comma D rest).0, (after_comma D rest).1)
 
--- so many phrases were taken, each with a comma after it, and another one is awaited where the next tokens fit
+-- so many phrases were taken, each with a comma after it, and another one is expected if the next tokens fit
 abbrev pub TrailingSoFar : (D : Class) → TokenKind → ℕ → List D.Tree → (Kinds → Type 0) → Type 0
 TrailingSoFar D close limit done Fit =
     Tail (Trailing D close) (Sequence D (FurtherTrailing D close)) limit limit (before_commas D.spell done []) (rows_of D done) Fit
 
--- the same, where the row may end too
+-- the same, where the list may also end
 abbrev pub CommaSoFar : (D : Class) → TokenKind → ℕ → List D.Tree → Type 0
 CommaSoFar D close limit done = Tail (Trailing D close) (AfterComma D close) limit limit (before_commas D.spell done []) (commas_of D done) (λ rest. Unit {0})
 
--- phrases fit
+-- all phrases fit
 abbrev pub Opens : (D : Class) → (Kinds → Type 0) → Type 0
 Opens D Fit = (d : D.Tree) (following : Kinds) → D.Is d → Fit (D.spell d following)
 
--- at the beginning of a row
+-- at the beginning of a list
 pub trailing_start : (D : Class) (close : TokenKind) (limit : ℕ) → (s : Separates D close) → D.tall s.least.tree ≤ limit
     → TrailingSoFar D close limit [] (λ rest. Unit {0})
 trailing_start D close limit s fits =
     production_tail (Trailing D close) (Sequence D (FurtherTrailing D close)) 0 [] (row_of D) (λ rest. Unit {0}) limit limit (omega arith)
     (trailing_production D close) (pair_least D close s.least) (omega (arith, fits))
 
--- a phrase of the row was refused
+-- a phrase of the list was refused
 pub trailing_refused : (D : Class) (close : TokenKind) (limit : ℕ) → (s : Separates D close) → (done : List D.Tree) (Fit : Kinds → Type 0)
     → TrailingSoFar D close limit done Fit → (front : Kinds) (next : TokenKind) (deep : Bool)
     → ((following : Kinds) → Near next following → Fit (front ++ following)) → Refused D limit front next deep
@@ -213,7 +213,7 @@ trailing_first D close next no_comma no_close [] false after more same = no_clos
 trailing_first D close next no_comma no_close [] true after more same = no_comma cc
 trailing_first D close next no_comma no_close (d ∷ ds) comma after more same = no_comma cc
 
--- a phrase was taken, and neither a comma nor what closes the row stands after it
+-- a phrase was taken, and neither a comma nor the closing token follows it
 pub trailing_wrong : (D : Class) (close : TokenKind) (limit : ℕ) → (s : Separates D close) → (done : List D.Tree) (Fit : Kinds → Type 0) → Opens D Fit
     → TrailingSoFar D close limit done Fit → (last : D.Tree) (next : TokenKind) (deep : Bool) → Took D limit last next deep
     → (next ≡ comma_token → ⊥) → (next ≡ close → ⊥)
@@ -226,7 +226,7 @@ trailing_wrong D close limit s done Fit opens so_far last next deep t no_comma n
     (λ d after is same. trailing_some D close d.0 d.1 after same)
     (λ d after more is same. trailing_first D close next no_comma no_close d.0 d.1 after more same))
 
--- a phrase was taken: what is left is the rest of the row
+-- a phrase was taken: the rest of the list remains
 last_tail : (D : Class) (close : TokenKind) (limit : ℕ) → (s : Separates D close) → (done : List D.Tree) (Fit : Kinds → Type 0) → Opens D Fit
     → TrailingSoFar D close limit done Fit → (last : D.Tree) (next : TokenKind) (deep : Bool) → Took D limit last next deep → D.Shut last (next ∷ [])
     → Tail (Trailing D close) (FurtherTrailing D close) limit limit (before_commas D.spell done [] ++ D.spell last []) (λ d. rows_of D done (last, d))
@@ -256,7 +256,7 @@ end_is D close differs [] false after following same = (refl, cc)
 end_is D close differs [] true after following same = absurd (differs cc)
 end_is D close differs (d ∷ ds) comma after following same = absurd (differs cc)
 
--- a phrase was taken, and what closes the row stands after it
+-- a phrase was taken, and the closing token follows it
 pub trailing_took : (D : Class) (close : TokenKind) (limit : ℕ) → (s : Separates D close) → (done : List D.Tree) (Fit : Kinds → Type 0) → Opens D Fit
     → TrailingSoFar D close limit done Fit → (last : D.Tree) (deep : Bool) → Took D limit last close deep
     → (next : TokenKind) → Took (Trailing D close) limit (done ++ last ∷ [], false) next false
@@ -270,7 +270,7 @@ trailing_took D close limit s done Fit opens so_far last deep t next =
       exact = λ other after following is same. end_is D close s.differs other.0 other.1 after following same;
     }) next)
 
--- a phrase was taken, and a comma stands after it
+-- a phrase was taken, and a comma follows it
 pub trailing_comma : (D : Class) (close : TokenKind) (limit : ℕ) → (s : Separates D close) → (done : List D.Tree) (Fit : Kinds → Type 0) → Opens D Fit
     → TrailingSoFar D close limit done Fit → (last : D.Tree) (deep : Bool) → Took D limit last comma_token deep
     → CommaSoFar D close limit (done ++ last ∷ [])
@@ -295,7 +295,7 @@ closed_is D close none None after following is same = (refl, cc)
 closed_is D close none (Some row) after following is same =
     absurd (none row.0 (each_after_comma D.spell row.1.0 (comma_text row.1.1 (close ∷ after))) following is.0 same)
 
--- what closes the row stands after a comma
+-- the closing token follows a comma
 pub comma_took : (D : Class) (close : TokenKind) (limit : ℕ) → (s : Separates D close) → NoneCloses D close
     → (done : List D.Tree) → CommaSoFar D close limit done → (next : TokenKind) → Took (Trailing D close) limit (done, true) next false
 comma_took D close limit s none done so_far next =
@@ -308,7 +308,7 @@ comma_took D close limit s none done so_far next =
       exact = λ other after following is same. closed_is D close none other after following is same;
     }) next))
 
--- after a comma another phrase is awaited, where what closes the row doesn't stand there
+-- after a comma another phrase is expected, unless the next token closes the list
 pub comma_more : (D : Class) (close : TokenKind) (limit : ℕ) → (s : Separates D close) → D.tall s.least.tree ≤ limit
     → (done : List D.Tree) → CommaSoFar D close limit done → TrailingSoFar D close limit done (NotClosed close)
 comma_more D close limit s fits done so_far =
@@ -320,7 +320,7 @@ comma_more D close limit s fits done so_far =
     (pair_least D close s.least) (omega (arith, fits))) (λ following fit. tt))
     (append-nil (before_commas D.spell done [])) (λ part. refl) (λ following fit. fit)
 
--- phrases don't begin with what closes the row
+-- no phrase begins with the token that closes the list
 pub opens_not_closed : (D : Class) (close : TokenKind) → NoneCloses D close → Opens D (NotClosed close)
 opens_not_closed D close none d following is more same = none d following more is same
 
@@ -345,7 +345,7 @@ pub comma_refused : (D : Class) (close : TokenKind) (limit : ℕ) → (s : Separ
 comma_refused D close limit s none done so_far front next deep other r =
     trailing_refused D close limit s done (NotClosed close) so_far front next deep (front_not_closed D close limit none front next deep other r) r
 
--- rows that were taken, whatever stands after them
+-- lists that were taken, whatever follows them
 pub trailing_exact : (D : Class) (close : TokenKind) (limit : ℕ) → (s : Separates D close) → (done : List D.Tree) (Fit : Kinds → Type 0) → Opens D Fit
     → TrailingSoFar D close limit done Fit → (last : D.Tree) (deep : Bool) → Took D limit last close deep
     → Exactly (Trailing D close) limit (done ++ last ∷ [], false)

@@ -24,7 +24,7 @@ use Rattle.cs_grammar.proofs.FileBeginnings.{specs_of, plain_text, block_words, 
 use Rattle.cs_grammar.proofs.BlockItems.{plain_height}
 use Rattle.cs_grammar.proofs.Tails.{near_other}
 
--- the first word of some tokens, and what stands after it
+-- the first word of some tokens, and what follows it
 abbrev read_word : Kinds → Option (TypeWord × Kinds)
 read_word (token.Keyword keyword.Const ∷ rest) = Some (word.Const, rest)
 read_word (token.Keyword keyword.Void ∷ rest) = Some (word.Void, rest)
@@ -83,7 +83,7 @@ starts_word (word.Typedef name) x = (x, refl)
 starts_word (word.Struct tag) x = (token.Name tag ∷ x, refl)
 starts_word (word.Enum tag) x = (token.Name tag ∷ x, refl)
 
--- words of a type, and a name: none of a type begins so
+-- the words of a type, followed by a name, begin no type
 whole_and_name : (names : Names) (first : TypeWord) (others : List TypeWord) (n : List ℕ) (more : List TypeWord)
     → names_type names ((first ∷ others) ++ word.Typedef n ∷ more) ≡ false
 whole_and_name names word.Const others n more = and_left false (fit_together ((word.Const ∷ others) ++ word.Typedef n ∷ more)) refl
@@ -107,14 +107,14 @@ named_and_name : (names : Names) (named : List TypeWord) (n : List ℕ) (more : 
 named_and_name names [] n more e = absurd (false≢true e)
 named_and_name names (w ∷ ws) n more e = whole_and_name names w ws n more
 
--- a type and a name make no type
+-- a type followed by a name is no type
 pub type_and_name : (names : Names) (ws : List TypeWord) (n : List ℕ) (more : List TypeWord) → is_type names ws ≡ true
     → is_type names (ws ++ word.Typedef n ∷ more) ≡ true → ⊥
 type_and_name names ws n more type both =
     both_ways (is_type names (ws ++ word.Typedef n ∷ more)) (ap (names_type names) (named_more ws (word.Typedef n ∷ more))
     ∙ named_and_name names (named_by ws) n (named_by more) type) both
 
--- only a name is both a word and what may stand after a type
+-- only a name is both a word and what may follow a type
 word_ends : (w : TypeWord) → ends_specs (first_token w) ≡ true → (n : List ℕ) × (w ≡ word.Typedef n)
 word_ends (word.Typedef n) e = (n, refl)
 word_ends word.Const e = absurd (false≢true e)
@@ -155,7 +155,7 @@ words_go_on names before (w ∷ ws) (v ∷ vs) after following go type f same =
     let r = words_go_on names (before ++ w ∷ []) ws vs after following go' type' f k.1 in
     (r.0, ap (λ (x : TypeWord). x ∷ vs) k.0 ∙ ap (λ (x : List TypeWord). w ∷ x) r.1, r.2)
 
--- no word that begins with the token continues with these
+-- no word that begins with the token continues these
 abbrev pub IsStuckAt : Names → List TypeWord → TokenKind → Type 0
 IsStuckAt names ws next = (one : TypeWord) (more : List TypeWord) → first_token one ≡ next → is_type names (ws ++ one ∷ more) ≡ false
 
@@ -225,7 +225,7 @@ tag_type names ws is_struct tag none =
     ap (names_type names) (named_more ws (tagged is_struct tag ∷ []) ∙ ap (λ (x : List TypeWord). x ++ named_by (tagged is_struct tag ∷ [])) none)
     ∙ tagged_names names is_struct tag
 
--- words so far, and tokens with which no word begins
+-- no specifiers continue these words with the next token
 pub block_words_never : (names : Names) (ws : List TypeWord) (next : TokenKind) → is_type names ws ≡ false → MayGoOn names ws → IsStuckAt names ws next
     → (other : Specs) (after following : Kinds) → AreBlockSpecs names other → Follows ends_specs after → Near next following
     → specs_text other after ≡ words_text ws [] ++ following → ⊥
@@ -237,7 +237,7 @@ block_words_never names ws next none go stuck other after following is f near sa
     let e = stuck_near names ws next r.0 after following stuck (ap (is_type names) (sym r.1) ∙ o.type) near r.2 in
     both_ways (is_type names ws) none (ap (is_type names) (sym (r.1 ∙ ap (λ (x : List TypeWord). ws ++ x) e.0 ∙ append-nil ws)) ∙ o.type)
 
--- words that name no type yet, and no word that continues with them
+-- words that name no type yet, and that no word continues
 pub block_specs_refused : (names : Names) (limit : ℕ) (ws : List TypeWord) (next : TokenKind) → 1 ≤ limit → is_type names ws ≡ false
     → MayGoOn names ws → IsStuckAt names ws next → Refused (BlockSpecs names) limit (words_text ws []) next false
 block_specs_refused names limit ws next some none go stuck = record {
@@ -252,7 +252,7 @@ block_specs_refused names limit ws next some none go stuck = record {
   further = λ reported. absurd (false≢true reported);
 }
 
--- the token after `struct` or `enum` is no tag
+-- the token after `struct` or `enum` isn't a tag
 tag_near : (is_struct : Bool) (next : TokenKind) (ws more : List TypeWord) (after following : Kinds) → ((n : List ℕ) → next ≡ token.Name n → ⊥)
     → Follows ends_specs after → Near next following → words_text more after ≡ tag_word is_struct ∷ following → ⊥
 tag_near true next ws [] after following no_name f near same = false≢true (follows_first after (tag_word true) following f same)

@@ -18,7 +18,7 @@ use Rattle.cs_grammar.specs.declared.type_words.TypeSoFar.TheVariants.{Nothing, 
 use Rattle.std.proofs.Common.{Option, Some, None}
 use Rattle.cs_grammar.specs.TypesSoFar.{Counts, fit, counted, is_whole, is_known, Describes, IsExtended, IsJoined}
 
--- the words but `const` of a list and one more
+-- the words of two lists, except for `const`, are those of both
 pub named_more : (ws us : List TypeWord) → named_by (ws ++ us) ≡ named_by ws ++ named_by us
 named_more ws us = filter-append (λ w. not (is_const w)) ws us
 
@@ -89,7 +89,7 @@ either_test a b a' b' p q h =
       | inr e ↦ or_right (a == 0) (b == 0) (zero_test b b' q e)
     ]
 
--- fewer words fit together too
+-- fewer words also fit together
 pub fewer_fit : (a b c d e f a' b' c' d' e' f' : ℕ) → a ≤ a' → b ≤ b' → c ≤ c' → d ≤ d' → e ≤ e' → f ≤ f'
     → fit_numbers a' b' c' d' e' f' ≡ true → fit_numbers a b c d e f ≡ true
 fewer_fit a b c d e f a' b' c' d' e' f' pa pb pc pd pe pf h =
@@ -110,7 +110,7 @@ fewer_fit a b c d e f a' b' c' d' e' f' pa pb pc pd pe pf h =
     (either_test a (c + d) a' (c' + d') pa (omega arith) h4.1))
     (either_test b d b' d' pb pd h5.1)
 
--- a nonempty part of a fitting choice of words fits
+-- a nonempty part of words that fit together fits
 pub part_fits : (all : IntegerWords) (ws us : List TypeWord) → Counts all ws → fit_together (ws ++ us) ≡ true → fit all ≡ true
 part_fits all ws us c h =
     fewer_fit all.char all.short all.int all.long all.signed all.unsigned
@@ -155,7 +155,7 @@ named_one (word.Struct tag) us c = refl
 named_one (word.Enum tag) us c = refl
 named_one (word.Integer kind) us c = refl
 
--- words that name nothing, and one that names a type
+-- words that name nothing yet, and one that names a type
 pub extends_nothing : (names : Names) (so_far : TypeSoFar) (words : List TypeWord) (next : TypeWord) → so_far ≡ Nothing → is_const next ≡ false
     → is_integer_word next ≡ false → Describes names so_far words → is_known names next ≡ true → Describes names Whole (words ++ next ∷ [])
 extends_nothing names so_far words next e c i d k =
@@ -173,7 +173,7 @@ one_fits Long = refl
 one_fits Signed = refl
 one_fits Unsigned = refl
 
--- what becomes of words of an integer type and one more of them
+-- words of an integer type and one more of them: their description, or none
 abbrev pub AfterJoin : Names → List TypeWord → TypeWord → Option IntegerWords → Type 0
 AfterJoin names words next (Some all) = Describes names (Integers all) (words ++ next ∷ [])
 AfterJoin names words next None = IsExtended names words next None
@@ -198,7 +198,7 @@ joins names words kind all None (first, others, named, are) j =
     ap (names_type names) (named_more words (word.Integer kind ∷ more) ∙ ap (λ (x : List TypeWord). x ++ word.Integer kind ∷ named_by more) named)
     ∙ misfit names first others (named_by more) kind all are.counts are.integers (j are.fitting)
 
--- words that name nothing, and one of an integer type
+-- words that name nothing yet, and one of an integer type
 pub extends_by_integer : (names : Names) (so_far : TypeSoFar) (words : List TypeWord) (next : TypeWord) (kind : IntegerWord) (all : IntegerWords)
     → so_far ≡ Nothing → next ≡ word.Integer kind → all ≡ counted kind (record { char = 0; short = 0; int = 0; long = 0; signed = 0; unsigned = 0 })
     → Describes names so_far words → Describes names (Integers all) (words ++ next ∷ [])

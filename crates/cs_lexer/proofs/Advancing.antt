@@ -35,12 +35,12 @@ use Rattle.cs_lexer.specs.Words.{WordGives}
 use Rattle.cs_lexer.specs.Pieces.{Begins, BeginsAs, other_class}
 use Rattle.cs_lexer.proofs.LongestPunctuator.{punctuator_has_one}
 
--- a line that is there is at most 2,147,483,647
+-- a line number, if there is one, is at most 2,147,483,647
 abbrev pub LineFits : Option ℕ → Type 0
 LineFits None = Unit {0}
 LineFits (Some line) = line ≤ 2147483647
 
--- a piece has a byte or more
+-- a piece has at least one byte
 abbrev pub Advances : Lexeme → Type 0
 Advances (Gap size) = 0 < size
 Advances (Marker size next name) = (0 < size) × LineFits next
@@ -136,7 +136,7 @@ quoted_advances : (bytes : List ℕ) (end : Option ℕ) (found : Lexeme) → Tex
 quoted_advances bytes None found h = refused_advances found h
 quoted_advances bytes (Some count) found h = text_advances _ found h
 
--- a token of some bytes, or a fault
+-- a token of at least one byte, or a fault
 decided : (t : Bool) (fault : Fault) (before size : ℕ) (kind : TokenKind) → 0 < size → Advances (cond t (Refused fault before) (Token size kind))
 decided true fault before size kind some = tt
 decided false fault before size kind some = some
@@ -181,7 +181,7 @@ number_advances b bytes digit =
     constant_advances base (value_of base (run base digits)) (suffix_of (drop (length (run base digits)) digits))
     (prefix_length base + length (run base digits) + (suffix_of (drop (length (run base digits)) digits)).bytes) (b ∷ bytes) (omega arith)
 
--- the classes, one test after another
+-- two classes and the test that selects one
 choose : (t : Bool) (one other : Class) (bytes : List ℕ) (found : Lexeme) → (t ≡ true → BeginsAs one bytes found → Advances found)
     → (t ≡ false → BeginsAs other bytes found → Advances found) → BeginsAs (cond t one other) bytes found → Advances found
 choose true one other bytes found here elsewhere h = here refl h
@@ -194,7 +194,7 @@ other_advances b bytes found =
     choose (b == 34) classes.Text classes.Punctuator (b ∷ bytes) found (λ _ h. quoted_advances bytes (closing 34 false bytes) found h)
     (λ _ h. punctuator_advances (b ∷ bytes) found h)))
 
--- a piece at the front of some bytes has a byte or more
+-- a piece at the front of some bytes has at least one byte
 pub advances : (is_line_start : Bool) (bytes : List ℕ) (found : Lexeme) → 0 < length bytes → Begins is_line_start bytes found → Advances found
 advances is_line_start [] found some = absurd (omega arith)
 advances is_line_start (b ∷ bytes) found some =

@@ -12,7 +12,7 @@ use Rattle.cs_lexer.specs.Spots.{start, line_of, column_on, step, spot_after, Is
 use Rattle.cs_lexer.specs.Cuttings.{Reaches, begins, gap, marker, token, token_at, file_after, files_after, marked_spot}
 use Rattle.cs_lexer.proofs.Advancing.{LineFits, advances}
 
--- the text is cut as far as this rest, and what is left fits the places and files
+-- the text is cut up to this rest; files, lines and columns stay within their bounds when the length of the rest is added
 pub record CutSoFar (text : List ℕ) (files : List (List ℕ)) (list : List Token) (spot : Spot) (rest : List ℕ) : Type 0 where
   pub reaches : Reaches text files list spot rest
   pub within : length rest ≤ length text
@@ -32,11 +32,11 @@ cut_begins text files list spot f l s = record {
   column_fits = omega (arith, ap (λ at. at.place.column) s);
 }
 
--- fewer bytes are left after a piece
+-- a piece makes the rest shorter
 pub fewer_left : (size : ℕ) (rest left : List ℕ) → 0 < size → 0 < length rest → left ≡ drop size rest → length left < length rest
 fewer_left size rest left piece some is = omega (arith, ap length is, length-drop size rest)
 
--- what a place and what is left sum to does not grow
+-- the sum of a position's line or column and the length of the rest doesn't grow
 line_later : (spot later : Spot) (size : ℕ) (rest left : List ℕ) → IsWithin spot (length (take size rest)) later → left ≡ drop size rest
     → later.place.line + length left ≤ spot.place.line + length rest
 line_later spot later size rest left within is = omega (arith, within.line, ap length is, length-drop size rest, length-take size rest)

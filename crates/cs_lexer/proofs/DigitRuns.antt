@@ -40,11 +40,11 @@ digits_are_ascii base [] h i = omega arith
 digits_are_ascii base (d ∷ ds) h zero = digit_is_ascii base d (and_parts (is_digit_of base d) (list_all (is_digit_of base) ds) h).0
 digits_are_ascii base (d ∷ ds) h (suc i) = digits_are_ascii base ds (and_parts (is_digit_of base d) (list_all (is_digit_of base) ds) h).1 i
 
--- digits are text
+-- digits are valid UTF-8
 pub digits_are_text : (base : Base) (ds : List ℕ) → list_all (is_digit_of base) ds ≡ true → IsUtf8 ds
 digits_are_text base ds h = IsUtf8-from_ascii ds (digits_are_ascii base ds h)
 
--- no plus stands before them
+-- digits don't begin with a plus
 pub no_plus : (base : Base) (ds : List ℕ) → 0 < length ds → list_all (is_digit_of base) ds ≡ true → without_leading_plus ds ≡ ds
 no_plus base [] some h = refl
 no_plus base (d ∷ ds) some h = rw (digit_is_no_plus base d (and_parts (is_digit_of base d) (list_all (is_digit_of base) ds) h).0) refl

@@ -22,11 +22,11 @@ at_end at end h none = elim (nat_lt at end) as (λ t. nat_lt at end ≡ t → co
   | false ↦ λ e _. grind (arith, nat_tests)
 ] refl none
 
--- a name that has no place has the next number
+-- a name that isn't among them gets the next number
 pub next_number : (p : List ℕ → Bool) (names : List (List ℕ)) → position p names ≡ None → position_or_len p names ≡ length names
 next_number p names none = at_end (position_or_len p names) (length names) (within p names) none
 
--- the place of a name among one more
+-- the index of a name after one more was added
 pushed : (p : List ℕ → Bool) (names : List (List ℕ)) (name : List ℕ)
     → position p (names ++ name ∷ [])
     ≡ place (cond (eqb (position_or_len p names) (length names)) (length names + cond (p name) 0 1) (position_or_len p names)) (length names + 1)
@@ -63,7 +63,7 @@ flipped one other apart = elim (pointwise nat_eq other one) as (λ t. pointwise 
   | false ↦ λ _. refl
 ] refl
 
--- and any other name where it was
+-- and any other name at its old index
 old_place : (names : List (List ℕ)) (name other : List ℕ) → pointwise nat_eq name other ≡ false
     → position (pointwise nat_eq other) (names ++ name ∷ []) ≡ position (pointwise nat_eq other) names
 old_place names name other apart =
@@ -73,7 +73,7 @@ old_place names name other apart =
     (position_or_len (pointwise nat_eq other) names)) (length names + 1)) (flipped name other apart)
     ∙ found_before (position_or_len (pointwise nat_eq other) names) (length names) (within (pointwise nat_eq other) names)
 
--- a map with the added name's number has the place of each name
+-- a map with the added name's number has the index of each name
 pub still_numbered : (old new : BTreeMap (List ℕ) ℕ) (names more : List (List ℕ)) (name : List ℕ) (number : ℕ) → Numbered old names
     → position (pointwise nat_eq name) names ≡ None → number ≡ length names → more ≡ names ++ name ∷ [] → HasEntered old new name number
     → Numbered new more

@@ -46,7 +46,7 @@ marked_file files spot None (Some name) bytes h = omega (arith, same_file spot b
 marked_file files spot (Some line) None bytes h = h
 marked_file files spot (Some line) (Some name) bytes h = numbered files name
 
--- where the cutting stands is in a file that the text names
+-- the position that cutting has reached is in a file that the text names
 pub is_named : (text : List ℕ) (files : List (List ℕ)) (list : List Token) (spot : Spot) (rest : List ℕ) → Reaches text files list spot rest
     → spot.place.file < length files
 is_named text _ _ _ _ begins = omega arith
@@ -57,7 +57,7 @@ is_named text _ _ _ _ (marker {files} {list} {spot} {rest} size next name reache
 is_named text _ _ _ _ (token {files} {list} {spot} {rest} size kind reaches some is) =
     omega (arith, is_named text files list spot rest reaches, same_file spot (take size rest))
 
--- the first fault stands in a file that the text names
+-- the first fault is in a file that the text names
 pub fault_named : (text : List ℕ) (files : List (List ℕ)) (list : List Token) (place : Place) (fault : Fault) → IsRefusedAt text files list place fault
     → place.file < length files
 fault_named text files list place fault r =

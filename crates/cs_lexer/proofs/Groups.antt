@@ -23,7 +23,7 @@ one_step true closing depth (suc surplus) = grind (arith, nat_tests)
 one_step false true depth surplus = grind (arith, nat_tests)
 one_step false false depth surplus = refl
 
--- so many open parentheses are closed where that many close that open before
+-- so many open parentheses are closed exactly if the surplus of closing ones is at least as great
 pub closed_by_surplus : (tokens : List Token) (depth : ℕ) → is_some (length_to_close tokens depth) ≡ nat_le depth (surplus_of tokens)
 closed_by_surplus tokens zero = grind (arith, nat_tests)
 closed_by_surplus [] (suc depth) = grind (arith, nat_tests)
@@ -31,7 +31,7 @@ closed_by_surplus (token ∷ tokens) (suc depth) =
     is_some_suc (length_to_close tokens (depth_after token (suc depth))) ∙ closed_by_surplus tokens (depth_after token (suc depth))
     ∙ one_step (opens token.kind) (closes token.kind) depth (surplus_of tokens)
 
--- the surplus and the answers, for the first of the reversed tokens
+-- the surplus and the results, for the first of the reversed tokens
 pub record Counted (reversed : List Token) (index surplus : ℕ) (made : List Bool) : Type 0 where
   pub surplus_is : surplus ≡ surplus_of (reverse (take index reversed))
   pub length_is : length made ≡ suc index
@@ -74,7 +74,7 @@ count_more reversed index surplus later made more token so_far within item step 
       low = omega (arith, so_far.low, step, one_lower (opens token.kind) (closes token.kind) surplus);
     }
 
--- the tokens that are left, given from the last one on, and those that are kept so far
+-- the remaining tokens, in reverse order, and those that are kept so far
 pub record Sifted (tokens left : List Token) (closings : List Bool) (depth : ℕ) (kept : List Token) : Type 0 where
   pub closed : IsClosings left closings
   pub skipped : ℕ
@@ -82,7 +82,7 @@ pub record Sifted (tokens left : List Token) (closings : List Bool) (depth : ℕ
   pub rest : kept ++ without_attributes skipped (reverse left) ≡ without_attributes 0 tokens
   pub bounded : length left + depth ≤ length tokens + 1
 
--- the answers serve for the first of the reversed tokens too
+-- the results also hold for fewer of the reversed tokens
 closings_front : (front others : List Token) (closings : List Bool) → IsClosings (front ++ others) closings → IsClosings front closings
 closings_front front others closings h = record {
   enough = omega (arith, h.enough, length-append front others);
@@ -90,7 +90,7 @@ closings_front front others closings h = record {
       ∙ ap (λ ts. is_some (length_to_close (reverse ts) 1)) (take-append-le count front others below);
 }
 
--- an open parenthesis that closes after a token closes after the next ones
+-- a parenthesis that closes after a token and others closes after these others
 pub record ClosesIn (o : Option ℕ) (skipped : ℕ) : Type 0 where
   pub fewer : ℕ
   pub is : o ≡ Some fewer
@@ -105,7 +105,7 @@ one_deeper true closing depth = omega arith
 one_deeper false true depth = omega arith
 one_deeper false false depth = omega arith
 
--- a token of an attribute is unsupported
+-- a token of an attribute is dropped
 pub sift_skipped : (tokens old left : List Token) (closings : List Bool) (depth later : ℕ) (kept : List Token) (token : Token)
     → Sifted tokens old closings (suc depth) kept → old ≡ left ++ token ∷ [] → later ≡ depth_after token (suc depth)
     → Sifted tokens left closings later kept
@@ -171,7 +171,7 @@ front_of left group = front_turned left group.inside group.opening group.is
 front_is : (left : List Token) → take (length left - 1) left ++ drop (length left - 1) left ≡ left
 front_is left = take-append-drop (length left - 1) left
 
--- an attribute's word and the parenthesis after it are unsupported
+-- an attribute's word and the parenthesis after it are dropped
 pub sift_group : (tokens old left inner : List Token) (closings : List Bool) (kept : List Token) (token : Token) → Sifted tokens old closings 0 kept
     → old ≡ left ++ token ∷ [] → has_group token (reverse left) ≡ true → inner ≡ take (length left - 1) left
     → Sifted tokens inner closings 1 kept
@@ -194,7 +194,7 @@ sift_group tokens old left inner closings kept token so_far is begins cut =
       bounded = omega (arith, so_far.bounded, ap length is, length-append left (token ∷ []), ap length cut, length-take (length left - 1) left);
     }
 
--- the same by tests on the depth
+-- the same, by tests on the depth
 pub in_group : (tokens old left : List Token) (closings : List Bool) (depth later : ℕ) (kept : List Token) (token : Token) → 0 < depth
     → Sifted tokens old closings depth kept → old ≡ left ++ token ∷ [] → later ≡ depth_after token depth → Sifted tokens left closings later kept
 in_group tokens old left closings zero later kept token inside so_far is step = absurd (omega arith)

@@ -42,7 +42,7 @@ use Rattle.cs_lexer.specs.Held.{LexedTokensAreHeld}
 
 -- ---- pieces
 
--- a piece that is a token is not too wide
+-- a piece that is a token isn't too wide
 abbrev PieceIsHeld : Lexeme → Type 0
 PieceIsHeld (found.Token size kind) = IsHeldToken kind
 PieceIsHeld (found.Gap size) = Unit {0}
@@ -123,7 +123,7 @@ value_of-fits base digits = by_test _ refl
     by_test true is = ltb-true _ _ is
     by_test false is = tt
 
--- one in base ten without `u` is narrow
+-- a decimal one without `u` is narrow
 narrow : (decimal unsigned wide : Bool) → (decimal && (not unsigned && wide)) ≡ false → decimal ≡ true → unsigned ≡ false → wide ≡ false
 narrow true false false h d u = refl
 narrow true false true h d u = absurd cc

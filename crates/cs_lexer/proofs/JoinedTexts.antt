@@ -1,4 +1,4 @@
--- Adjacent string literals, joined one by one: for `whole_text` and `joined`.
+-- Adjacent string literals are joined one by one: for `whole_text` and `joined`.
 use Rattle.std.proofs.Common.{◌≡◌, ℕ, ◌-◌, ◌≤◌, List, [], ◌∷◌, ◌++◌, length, length-take, append_assoc, take, reverse, cond, Some}
 use Rattle.std.proofs.Common.{None, refl, sym, ap, ◌∙◌, subst, arith}
 use Rattle.cs_ast.specs.declared.place.Place.{Place}
@@ -13,7 +13,7 @@ use Rattle.cs_lexer.proofs.Turned.{front_turned}
 abbrev text_at : List ℕ → Place → Token
 text_at bytes place = record { kind = Text bytes; place = place }
 
--- the first text with these bytes before the tokens that were left is a text with those bytes before the tokens that are left
+-- the first literal joined with all tokens after it is the same as the bytes so far joined with the remaining tokens
 pub record Gathered (first : List ℕ) (before : List Token) (bytes : List ℕ) (left : List Token) : Type 0 where
   pub same : (place : Place) → text_before first place (joined (reverse before)) ≡ text_before bytes place (joined (reverse left))
   pub fewer : length left ≤ length before
@@ -31,7 +31,7 @@ next_text bytes more place left (token ∷ tokens) is text =
     ap (λ ts. text_before bytes place (joined ts)) is ∙ step_on bytes more place token (joined tokens) text
     ∙ ap (λ ts. text_before (bytes ++ more) place (joined ts)) (sym (front_turned left tokens token is))
 
--- a text continues with the next token's bytes
+-- a literal continues with the next token's bytes
 pub gather_next : (first : List ℕ) (before : List Token) (bytes more whole : List ℕ) (left inner : List Token) → Gathered first before bytes left
     → first_text (reverse left) ≡ Some more → whole ≡ bytes ++ more → inner ≡ take (length left - 1) left → Gathered first before whole inner
 gather_next first before bytes more whole left inner so_far text pushed cut = record {
@@ -41,7 +41,7 @@ gather_next first before bytes more whole left inner so_far text pushed cut = re
   fewer = omega (arith, so_far.fewer, ap length cut, length-take (length left - 1) left);
 }
 
--- and ends where no text follows
+-- and ends if no literal follows
 ended : (bytes : List ℕ) (place : Place) (list : List Token) → first_text list ≡ None
     → text_before bytes place (joined list) ≡ text_at bytes place ∷ joined list
 ended bytes place [] none = ap (λ bs. text_at bs place ∷ []) (append-nil bytes)
@@ -56,7 +56,7 @@ pub gathered_all : (first : List ℕ) (before : List Token) (bytes made : List �
 gathered_all first before bytes made left so_far none is = λ place.
     so_far.same place ∙ ended bytes place (reverse left) none ∙ ap (λ bs. text_at bs place ∷ joined (reverse left)) (sym is)
 
--- what holds of a text holds of the kind that it is
+-- what holds for a string literal holds for its kind
 pub text_kind : (kind : TokenKind) (first : List ℕ) (tokens : List Token) (bytes : List ℕ) (others : List Token) → kind ≡ Text first
     → IsWholeText first tokens bytes others → IsWholeKind kind tokens (Text bytes) others
 text_kind kind first tokens bytes others is whole = subst (λ k. IsWholeKind k tokens (Text bytes) others) (sym is) whole

@@ -4,7 +4,7 @@ use Rattle.cs_lexer.specs.declared.escape.Item.TheVariants.{Byte}
 use Rattle.cs_lexer.specs.Escapes.{item_at}
 use Rattle.cs_lexer.specs.Quoted.{Reads, begins, item}
 
--- the body is read as far as the rest, which is a part of it
+-- the body is read up to the rest, which is a part of it
 pub record Progress (body values rest : List ℕ) : Type 0 where
   pub reads : Reads body values rest
   pub within : length rest ≤ length body

@@ -20,7 +20,7 @@ take_again zero xs = refl
 take_again (suc n) [] = refl
 take_again (suc n) (x ∷ xs) = ap (λ ys. x ∷ ys) (take_again n xs)
 
--- no punctuator is spelled by this many bytes of the front
+-- no punctuator is spelled by so many bytes of the front
 abbrev pub NoneOf : List ℕ → ℕ → Type 0
 NoneOf bytes k = (other : Punctuator) → punctuator_text other ≢ take k bytes
 
@@ -37,7 +37,7 @@ no_longer bytes text other n is none begins =
       | inr below ↦ omega (arith, ap length is, length-take n bytes)
     ]
 
--- a punctuator of so many bytes is the longest where no more bytes spell one
+-- a punctuator of so many bytes is the longest if no greater number of bytes spells one
 pub longest_from : (bytes : List ℕ) (punctuator : Punctuator) (n : ℕ) → punctuator_text punctuator ≡ take n bytes
     → ((k : ℕ) → n < k → k ≤ 3 → NoneOf bytes k) → IsLongestPunctuator bytes punctuator
 longest_from bytes punctuator n is none =
@@ -46,7 +46,7 @@ longest_from bytes punctuator n is none =
       longest = λ other begins. no_longer bytes (punctuator_text punctuator) other n is none begins;
     }
 
--- and none begins where none is spelled at all
+-- and no punctuator begins the bytes if no number of bytes spells one
 pub none_from : (bytes : List ℕ) → ((k : ℕ) → 0 < k → k ≤ 3 → NoneOf bytes k) → NoPunctuator bytes
 none_from bytes none other begins = none (length (punctuator_text other)) (punctuator_has_one other) (punctuator_has_three other) other (sym begins)
 

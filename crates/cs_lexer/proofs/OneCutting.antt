@@ -22,7 +22,7 @@ pub record Cut : Type 0 where
   pub spot : Spot
   pub rest : List ℕ
 
--- how far it is cut after the piece that was found; nothing is cut after a fault
+-- how far it is cut after the piece that was found; a fault ends the cutting
 abbrev following : Cut → Lexeme → Option Cut
 following c (Gap size) = Some (record { files = c.files; list = c.list; spot = spot_after c.spot (take size c.rest); rest = drop size c.rest })
 following c (Marker size next name) = Some (record {
@@ -35,7 +35,7 @@ following c (Token size kind) =
     Some (record { files = c.files; list = c.list ++ token_at kind c.spot.place ∷ []; spot = spot_after c.spot (take size c.rest); rest = drop size c.rest })
 following c (Refused fault size) = None
 
--- one piece more is cut
+-- one more piece is cut
 record CutsPiece (c d : Cut) : Type 0 where
   found : Lexeme
   some : 0 < length c.rest
@@ -79,7 +79,7 @@ at_fault files list spot rest fault size is d step =
     let none : None ≡ Some d = sym (ap (following (cut_of files list spot rest)) same) ∙ step.leads in
     absurd cc
 
--- what is said of the end of a cutting
+-- two cuttings have the same files, tokens, position and end
 pub record AreSame (files others : List (List ℕ)) (list more : List tokens.Token) (place other : Place) (end last : End) : Type 0 where
   pub same_files : files ≡ others
   pub same_list : list ≡ more
@@ -132,7 +132,7 @@ refused_once text files others list more place other f g h i =
       same_end = ap ends.Refused fault;
     }
 
--- a text is cut in one way, to its end or to its first fault
+-- a text is cut in only one way, up to its end or to its first fault
 pub one_cutting : (text : List ℕ) (files others : List (List ℕ)) (list more : List tokens.Token) (place other : Place) (end last : End)
     → EndsAs text files list place end → EndsAs text others more other last → AreSame files others list more place other end last
 one_cutting text files others list more place other ends.Whole ends.Whole h i = whole_once text files others list more place other h i

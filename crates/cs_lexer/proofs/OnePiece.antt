@@ -38,11 +38,11 @@ comment_once inside (Refused fault m) (Token n kind) h i = absurd i
 comment_once inside (Marker m next name) g h i = absurd h
 comment_once inside (Token m kind) g h i = absurd h
 
--- how far the body of a literal is read, and what it stands for so far
+-- the bytes that the body of a literal represents so far, and the rest of the body
 abbrev Reading : Type 0
 Reading = List ℕ × List ℕ
 
--- one item more is read
+-- one more item is read
 record ReadsItem (before after : Reading) : Type 0 where
   byte : ℕ
   size : ℕ

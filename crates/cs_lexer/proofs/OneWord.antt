@@ -1,4 +1,4 @@
--- A word, and the punctuator that bytes begin with, is only one token: for the uniqueness of cuttings.
+-- A word, or the punctuator that bytes begin with, is only one token: for the uniqueness of cuttings.
 use Rattle.std.proofs.Common.{◌≡◌, ◌⊎◌, inl, inr, ◌||◌, codes, ℕ, Bool, true, false, List, [], ◌∷◌, length, take, Option, Some, None}
 use Rattle.std.proofs.Common.{nat_eq, refl, sym, ap, ◌∙◌, arith}
 use Rattle.std.proofs.lemmas.Bool.{false≢true}
@@ -20,7 +20,7 @@ use Rattle.cs_lexer.specs.Spellings.{keyword_text, unsupported_text, punctuator_
 use Rattle.cs_lexer.specs.Punctuators.{NoPunctuator, IsPunctuatorToken, PunctuatorGives}
 use Rattle.cs_lexer.specs.Words.{dropped_words, attribute_words, is_dropped, is_attribute, IsPlain, WordIs, WordGives}
 
--- the first of these that is spelled so
+-- the first of these with this spelling
 abbrev spelled : {A : Type 0} → (A → List ℕ) → List A → List ℕ → Option A
 spelled text all word = find (λ a. pointwise nat_eq (text a) word) all
 
@@ -173,7 +173,7 @@ word_once word (Token m a) (Refused fault n) h i = absurd i
 word_once word (Marker m next name) g h i = absurd h
 word_once word (Refused fault m) g h i = absurd h
 
--- a punctuator is the longest one alone
+-- the token of a punctuator is only the longest one
 punctuator_token_once : (bytes : List ℕ) (m n : ℕ) (a b : TokenKind) → IsPunctuatorToken bytes m a → IsPunctuatorToken bytes n b
     → Token m a ≡ Token n b
 punctuator_token_once bytes m n (kinds.Punctuator k) (kinds.Punctuator l) h i =

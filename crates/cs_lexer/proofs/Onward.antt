@@ -29,7 +29,7 @@ module _ {S : Type 0} where
   stuck_at Step s t (stays e) stuck = e
   stuck_at Step s t (goes {t = x} first rest) stuck = absurd (stuck x first)
 
-  -- the state at which the steps from a beginning end is one
+  -- the steps from a beginning end in only one state
   pub one_end : (Step : S → S → Type 0) → IsDetermined Step → (a s t : S) → Onward Step a s → IsStuck Step s → Onward Step a t → IsStuck Step t
       → s ≡ t
   one_end Step once a s t way stuck other ended = elim (meet Step once a s t way other) [

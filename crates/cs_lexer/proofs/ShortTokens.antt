@@ -39,7 +39,7 @@ use Rattle.cs_lexer.specs.Texts.{first_text, text_of_kind, after_text, joined_to
 use Rattle.cs_lexer.specs.Words.{WordIs, WordGives}
 use Rattle.cs_lexer.proofs.Advancing.{advances}
 
--- ---- pieces: the bytes of a string literal are fewer than those of its piece, and than those that are left
+-- -- pieces: a string literal has fewer bytes than its piece, and than the remaining bytes
 
 abbrev KindFits : ℕ → ℕ → TokenKind → Type 0
 KindFits left size (token.Text bytes) = (length bytes < size) × (length bytes < left)
@@ -129,7 +129,7 @@ character-fits left bytes (Some count) = character_of-fits left (take count byte
 
 -- ---- string literals
 
--- a byte is written in one byte or more
+-- a byte is written with at least one byte
 either-advances : (b : Bool) (one other : Item) → Advances one → Advances other → Advances (cond b one other)
 either-advances true one other h k = h
 either-advances false one other h k = k
@@ -162,7 +162,7 @@ item-advances : (bytes : List ℕ) → Advances (item_at bytes)
 item-advances [] = tt
 item-advances (b ∷ bytes) = either-advances (b == 92) (escape bytes) (items.Byte b 1) (escape-advances bytes) (omega arith)
 
--- a body stands for no more bytes than it has
+-- a body represents no more bytes than it has
 reads_no_more : (body values rest : List ℕ) → Reads body values rest → length values + length rest ≤ length body
 reads_no_more body values rest reads_none = omega arith
 reads_no_more body values rest (item {values = earlier} {rest = left} {byte} {size} before some is) =
@@ -203,7 +203,7 @@ piece-fits class.Punctuator bytes piece some h = punctuator-fits (length bytes) 
 abbrev extent : List Token → ℕ
 extent list = sum_by token_extent list
 
--- a token and what is left after it are no more than what was left before it
+-- a token and the bytes after it are no more than the bytes before it
 one_less : (bytes : List ℕ) (size : ℕ) (kind : TokenKind) → 0 < length bytes → 0 < size → KindFits (length bytes) size kind
     → token_size kind + length (drop size bytes) ≤ length bytes
 one_less bytes size (token.Text values) some more h = omega (arith, h.0, h.1, length-drop size bytes)
@@ -235,7 +235,7 @@ kept-short zero (t ∷ ts) = by_test (has_group t ts) (kept-short (group_length 
     by_test true following next = omega (arith, following, sum_by-cons token_extent t ts)
     by_test false following next = omega (arith, next, sum_by-cons token_extent t ts, sum_by-cons token_extent t (without_attributes 0 ts))
 
--- the bytes of a text at the front, and what stands after it, are no more than all
+-- the bytes of a string literal at the front, and the extent after it, are no more than the whole extent
 front-short : (list : List Token) → length (unwrap_or (first_text list) []) + extent (after_text list) ≤ extent list
 front-short [] = omega arith
 front-short (t ∷ ts) = by_kind t.kind t.place

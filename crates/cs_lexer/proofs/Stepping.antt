@@ -3,7 +3,7 @@ use Rattle.std.proofs.Common.{◌≡◌, ℕ, List, drop}
 use Rattle.cs_lexer.specs.declared.spot.Spot.{Spot}
 use Rattle.cs_lexer.specs.Spots.{spot_after, IsWithin}
 
--- the first bytes, as many as this, lead to this spot
+-- so many of the first bytes lead to this position
 pub record Stepped (spot : Spot) (bytes : List ℕ) (index : ℕ) (at : Spot) : Type 0 where
   pub same : spot_after spot bytes ≡ spot_after at (drop index bytes)
   pub within : IsWithin spot index at

@@ -16,7 +16,7 @@ use Rattle.cs_lexer.proofs.Advancing.{LineFits, advances}
 use Rattle.cs_lexer.proofs.CutSoFar.{one_file_more}
 use Rattle.cs_lexer.proofs.FilesNamed.{no_fewer, is_named}
 
--- a token stands in one of so many files
+-- a token is in one of so many files
 abbrev IsIn : ℕ → Token → Type 0
 IsIn count t = t.place.file < count
 
@@ -42,7 +42,7 @@ pieces-in text files list spot rest (marker {files = fs} {spot = at} {rest = lef
 pieces-in text files list spot rest (token {files = fs} {list = earlier} {spot = at} {rest = left} size kind before some piece) =
     All-push (IsIn (length fs)) earlier (token_at kind at.place) (pieces-in text fs earlier at left before) (is_named text fs earlier at left before)
 
--- what is left of a text has a byte for each file that is still to come
+-- the remaining text has at least one byte for each further file
 pub files_fit : (text : List ℕ) (files : List (List ℕ)) (list : List Token) (spot : Spot) (rest : List ℕ) → Reaches text files list spot rest
     → length files + length rest ≤ length text + 1
 files_fit text files list spot rest begins = omega arith

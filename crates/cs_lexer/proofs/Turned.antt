@@ -3,7 +3,7 @@ use Rattle.std.proofs.Common.{◌≡◌, ◌-◌, List, [], ◌∷◌, ◌++◌,
 use Rattle.std.proofs.lemmas.List.{reverse-append, reverse-reverse, take-append-le}
 use Rattle.cs_ast.specs.declared.token.Token.{Token}
 
--- the last one is the next in order
+-- the last one of the reversed list is the next one
 pub turned_round : (old left : List Token) (token : Token) → old ≡ left ++ token ∷ [] → reverse old ≡ token ∷ reverse left
 turned_round old left token is = ap reverse is ∙ reverse-append left (token ∷ [])
 
@@ -11,7 +11,7 @@ take_whole : (xs : List Token) → take (length xs) xs ≡ xs
 take_whole [] = refl
 take_whole (x ∷ xs) = ap (λ ys. x ∷ ys) (take_whole xs)
 
--- without it the others are in order
+-- without it, the others are in order
 pub front_turned : (left inside : List Token) (token : Token) → reverse left ≡ token ∷ inside → reverse (take (length left - 1) left) ≡ inside
 front_turned left inside token is =
     let whole : left ≡ reverse inside ++ token ∷ [] = sym (reverse-reverse left) ∙ ap reverse is ∙ reverse-append (token ∷ []) inside in

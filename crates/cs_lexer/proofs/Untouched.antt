@@ -7,7 +7,7 @@ use Rattle.cs_ast.specs.declared.token.Token.{Token}
 use Rattle.cs_lexer.specs.Attributes.{is_attribute, begins_group, group_length, without_attributes}
 use Rattle.cs_lexer.specs.Texts.{text_of_kind, joined_to, joined}
 
--- where no token begins an attribute, nothing is dropped
+-- if no token begins an attribute, nothing is dropped
 pub none_dropped : (tokens : List Token) → list_any (λ token. is_attribute token.kind) tokens ≡ false → without_attributes 0 tokens ≡ tokens
 none_dropped [] none = refl
 none_dropped (token ∷ tokens) none =
@@ -19,7 +19,7 @@ no_text : (o : Option (List ℕ)) → is_some o ≡ false → o ≡ None
 no_text None none = refl
 no_text (Some bytes) none = absurd cc
 
--- where no token is a text, nothing is made one
+-- if no token is a string literal, nothing is joined
 pub none_joined : (tokens : List Token) → list_any (λ token. is_some (text_of_kind token.kind)) tokens ≡ false → joined tokens ≡ tokens
 none_joined [] none = refl
 none_joined (token ∷ tokens) none =

@@ -9,10 +9,10 @@ use Rattle.std.specs.declared.cmp.Ordering.TheVariants.{Equal}
 pub same_bytes : (xs ys : List ℕ) → pointwise nat_eq xs ys ≡ true → xs ≡ ys
 same_bytes xs ys = (bytes_decides xs ys).0
 
--- the same bytes are equal
+-- names with the same bytes are equal
 pub equal_to_same : (xs ys : List ℕ) → xs ≡ ys → pointwise nat_eq xs ys ≡ true
 equal_to_same xs ys = (bytes_decides xs ys).1
 
--- names that the order does not tell apart have the same bytes
+-- names that the order doesn't distinguish have the same bytes
 pub tied_bytes : (xs ys : List ℕ) → slice_cmp nat_cmp xs ys ≡ Equal → xs ≡ ys
 tied_bytes xs ys tied = same_bytes xs ys (rw (texts_ties, tied))

@@ -13,7 +13,7 @@ use Rattle.cs_types.specs.LeafSearch.{layout_within, IsBase}
 use Rattle.cs_types.proofs.Leaves.{scalar_at-row, scalar_at-row_end}
 use Rattle.cs_types.proofs.Nesting.{mapped, layout_within-Extends, layout_within-GivesSound}
 
--- an array's layout is its element's, so many times
+-- an array's layout is that of its element, repeated
 pub record ArrayParts (model : DataModel) (table : List StructType) (depth : ℕ) (element : Shape) (count : ℕ) (layout : Layout) : Type 0 where
   pub inner : Layout
   pub laid : layout_within model table depth element ≡ Some inner
@@ -43,7 +43,7 @@ element_size model table depth element count layout size parts e =
     let there = ap (option_map (λ (l : Layout). l.size)) parts.full in
     cc
 
--- nothing lies past the elements
+-- no scalar begins past the elements
 pub past_elements : (model : DataModel) (table : List StructType) (depth : ℕ) (element : Shape) (count : ℕ) (layout : Layout) (size offset : ℕ)
     → depth ≤ complete_count table → layout_within model table depth (array element count) ≡ Some layout
     → Some size ≡ option_map (λ (l : Layout). l.size) (layout_of model table element) → (size ≡ 0) ⊎ (count ≤ offset / size)
@@ -59,7 +59,7 @@ past_elements model table depth element count layout size offset d h e past =
     let same = ap (λ x. count * x) own in
     ap (λ (l : Layout). scalar_at offset l.leaves) parts.whole ∙ scalar_at-row_end count offset parts.inner sound.within (omega arith)
 
--- among them it is the element's at the rest
+-- within the elements, it is the element's scalar at the remainder
 pub in_element : (model : DataModel) (table : List StructType) (depth : ℕ) (element : Shape) (count : ℕ) (layout : Layout) (size offset : ℕ)
     (parts : ArrayParts model table depth element count layout) → Some size ≡ option_map (λ (l : Layout). l.size) (layout_of model table element)
     → (size ≡ 0 → ⊥) → offset / size < count → scalar_at offset layout.leaves ≡ scalar_at (offset % size) parts.inner.leaves
@@ -71,7 +71,7 @@ in_element model table depth element count layout size offset parts e some near 
     ap (λ (l : Layout). scalar_at offset l.leaves) parts.whole ∙ scalar_at-row count offset parts.inner sound.within above quotient
     ∙ ap (λ x. scalar_at (offset % x) parts.inner.leaves) (sym own)
 
--- an answer for one offset is one for another where the same scalar stands
+-- a result for one offset is also one for another with the same scalar
 pub same_base : (model : DataModel) (table : List StructType) (depth : ℕ) (outer inner : Layout) (o rest : ℕ) (answer : Option Base)
     → scalar_at o outer.leaves ≡ scalar_at rest inner.leaves
     → MatchOption answer (scalar_at rest inner.leaves ≡ None) (IsBase model table depth inner rest)

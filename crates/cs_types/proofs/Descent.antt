@@ -13,8 +13,8 @@ use Rattle.cs_types.specs.LeafSearch.{layout_within, DividesArrays, EntersMember
 use Rattle.std.proofs.lemmas.List.Sums.{count_by-le-length}
 use Rattle.cs_types.proofs.Nesting.{mapped}
 
--- the walk stands at a type with a layout, whose scalar at the rest of the offset is the one that is wanted
--- (`depth` structs may still hold one another there, and the walk has at least as many turns)
+-- the search is at a type with a layout, whose scalar at the rest of the offset is the result for the whole
+-- (`depth` structs may still be nested there, and the search has at least as many turns)
 pub record Reaches (model : DataModel) (table : List StructType) (turns : ℕ) (held : Shape) (rest : ℕ) (wanted : Option Shape) : Type 0 where
   pub depth : ℕ
   pub turns_left : depth ≤ turns
@@ -49,17 +49,17 @@ no_layout model table shape offset e = go (layout_of model table shape) e
     go None e = refl
     go (Some l) e = absurd (cc)
 
--- where dividing arrays finds nothing, nothing is wanted
+-- if dividing arrays finds nothing, there is no scalar
 pub none_found : (model : DataModel) (table : List StructType) (turns : ℕ) (held : Shape) (rest : ℕ) (wanted : Option Shape)
     → Reaches model table turns held rest wanted → DividesArrays model table held rest None → wanted ≡ None
 none_found model table turns held rest wanted r d = r.same ∙ d r.depth r.layout r.nested r.laid
 
--- a scalar that it finds is wanted
+-- a scalar that is found is the result
 pub scalar_found : (model : DataModel) (table : List StructType) (turns : ℕ) (held : Shape) (rest : ℕ) (wanted : Option Shape) (found : Bor CType)
     → Reaches model table turns held rest wanted → DividesArrays model table held rest (Some (Scalar found)) → wanted ≡ Some (shape_of found.now)
 scalar_found model table turns held rest wanted found r d = r.same ∙ d r.depth r.layout r.nested r.laid
 
--- a struct that it finds is there
+-- a struct that is found has a layout, in which the scalar at the rest of the offset is the result
 pub record InStruct (model : DataModel) (table : List StructType) (turns number inside : ℕ) (wanted : Option Shape) : Type 0 where
   pub depth : ℕ
   pub turns_left : depth ≤ turns
@@ -75,13 +75,13 @@ struct_found model table turns held rest wanted number inside r d =
     let base = d r.depth r.layout r.nested r.laid in
     record { depth = r.depth; turns_left = r.turns_left; nested = r.nested; layout = base.0; laid = base.1; same = r.same ∙ base.2 }
 
--- the depth at which a struct has a layout is that of the structs that it holds, and one more
+-- the depth of a struct that has a layout is at least one
 inner_depth : (model : DataModel) (table : List StructType) (depth number : ℕ) (layout : Layout) → struct_layout model table depth number ≡ Some layout
     → (inner : ℕ) × (depth ≡ suc inner)
 inner_depth model table zero number layout laid = absurd (cc)
 inner_depth model table (suc depth) number layout laid = (depth, refl)
 
--- a turn is left where a struct is to be entered
+-- a turn remains if a struct is entered
 pub struct-turn : (model : DataModel) (table : List StructType) (turns number inside : ℕ) (wanted : Option Shape)
     → InStruct model table turns number inside wanted → 0 < turns
 struct-turn model table turns number inside wanted s =
@@ -90,7 +90,7 @@ struct-turn model table turns number inside wanted s =
     let enough = s.turns_left in
     omega arith
 
--- where no member holds the offset, nothing is wanted
+-- if no member contains the offset, there is no scalar
 pub no_member : (model : DataModel) (table : List StructType) (turns number inside : ℕ) (wanted : Option Shape)
     → InStruct model table turns number inside wanted → EntersMember model table number inside None → wanted ≡ None
 no_member model table turns number inside wanted s e =
@@ -99,7 +99,7 @@ no_member model table turns number inside wanted s e =
     let nested = subst (λ (d : ℕ). d ≤ complete_count table) inner.1 s.nested in
     s.same ∙ e inner.0 s.layout nested laid
 
--- the walk goes on in the member that holds it
+-- the search continues in the member that contains it
 pub member_found : (model : DataModel) (table : List StructType) (turns number inside : ℕ) (wanted : Option Shape) (held : Bor CType) (rest : ℕ)
     → InStruct model table turns number inside wanted → EntersMember model table number inside (Some (held, rest))
     → Reaches model table (turns - 1) (shape_of held.now) rest wanted

@@ -12,7 +12,7 @@ use Rattle.cs_types.proofs.Nesting.{mapped, chained, member_layouts-Extends, lay
 use Rattle.cs_types.proofs.MemberSearch.{at_member, scalar_at-members, last_at-All, last_at-laid}
 use Rattle.cs_types.proofs.StructTables.{IsComplete, laid}
 
--- the members of a struct that has a layout, as they lie in it
+-- the members of a struct that has a layout, with their layouts
 pub record Members (model : DataModel) (table : List StructType) (depth : ℕ) (layout : Layout) (members : List Member) : Type 0 where
   pub layouts : List Layout
   pub laid : member_layouts (layout_within model table depth) members ≡ Some layouts
@@ -45,7 +45,7 @@ at_members model table depth offset layout members m =
     ∙ scalar_at-members (layout_within model table depth) offset 0 members m.layouts m.laid m.placed
     (member_layouts-AllSound (layout_within model table depth) (layout_within-GivesSound model table depth) members m.layouts m.laid)
 
--- before the first member nothing begins
+-- no scalar begins before the first member
 pub before_members : (model : DataModel) (table : List StructType) (number depth offset : ℕ) (found : StructType) (layout : Layout) → IsLaidOut model table
     → (at : IsComplete table number found) → suc depth ≤ complete_count table → struct_layout model table (suc depth) number ≡ Some layout
     → last_at offset at.members ≡ None → scalar_at offset layout.leaves ≡ None
@@ -53,7 +53,7 @@ before_members model table number depth offset found layout h at d e none =
     let members = members_in model table number depth found layout h at d e in
     at_members model table depth offset layout at.members members ∙ ap (at_member (layout_within model table depth) offset) none
 
--- the last member that begins at or before the offset has what the struct has
+-- the last member that begins at or before the offset has the scalar that the struct has
 pub in_member : (model : DataModel) (table : List StructType) (number depth offset : ℕ) (found : StructType) (layout : Layout) (member : Member)
     → IsLaidOut model table → (at : IsComplete table number found) → suc depth ≤ complete_count table
     → struct_layout model table (suc depth) number ≡ Some layout → last_at offset at.members ≡ Some member

@@ -7,12 +7,12 @@ use Rattle.std.proofs.lemmas.Nat.{div-mul-add}
 use Rattle.std.proofs.Math.IntN.{suc_ℤ, pred_ℤ, suc_ℤ-*ℤ, pred_ℤ-*ℤ, zero-*ℤ, +ℤ_idr}
 use Rattle.cs_types.specs.Wrap.{floor_div}
 
--- what division that rounds down leaves is the euclidean rest
+-- the remainder of division that rounds down is the euclidean one
 pub floor_div-rest : (z : ℤ) (n : ℕ) → 0 < n → floor_div z n *ℤ pos n +ℤ int_rem_euclid z (pos n) ≡ z
 floor_div-rest (pos a) n h = omega (arith, ints)
 floor_div-rest (negsuc a) n h = omega (arith, ints)
 
--- the rest is a natural number below the divisor
+-- the remainder is a natural number below the divisor
 pub euclid-rest : (z : ℤ) (n : ℕ) → 0 < n → (r : ℕ) × (int_rem_euclid z (pos n) ≡ pos r) × (r < n)
 euclid-rest (pos a) n h = (a % n, refl, omega arith)
 euclid-rest (negsuc a) n h = (n - 1 - a % n, refl, omega arith)
@@ -43,14 +43,14 @@ add_pos-*ℤ m (suc j) k =
     let before = add_pos-*ℤ m j k in
     omega (arith, ints, left, right, before)
 
--- a product with a difference
+-- a difference times a number
 pub sub_pos-*ℤ : (m : ℤ) (j : ℕ) (k : ℤ) → (m -ℤ pos j) *ℤ k ≡ m *ℤ k -ℤ pos j *ℤ k
 sub_pos-*ℤ m j k =
     let e : (m -ℤ pos j) +ℤ pos j ≡ m = omega (arith, ints) in
     let f = ap (λ x. x *ℤ k) (sym e) ∙ add_pos-*ℤ (m -ℤ pos j) j k in
     omega (arith, ints, f)
 
--- a product with a sum
+-- a sum times a number
 pub add-*ℤ : (m j k : ℤ) → (m +ℤ j) *ℤ k ≡ m *ℤ k +ℤ j *ℤ k
 add-*ℤ m (pos j) k = add_pos-*ℤ m j k
 add-*ℤ m (negsuc j) k =
@@ -61,7 +61,7 @@ add-*ℤ m (negsuc j) k =
     let none = zero-*ℤ k in
     omega (arith, ints, left, right, none)
 
--- the rounded quotient is the only one that leaves a rest below the divisor
+-- the rounded quotient is the only one with a remainder below the divisor
 pub floor_div-unique : (q z : ℤ) (r n : ℕ) → r < n → z ≡ q *ℤ pos n +ℤ pos r → floor_div z n ≡ q
 floor_div-unique (pos a) z r n h e =
     let f : z ≡ pos (a * n + r) = omega (arith, ints) in
@@ -70,7 +70,7 @@ floor_div-unique (negsuc a) z r n h e =
     let f : z ≡ negsuc (a * n + (n - 1 - r)) = omega (arith, ints) in
     ap (λ x. floor_div x n) f ∙ ap negsuc (div-mul-add a n (n - 1 - r) (omega arith))
 
--- a multiple of the divisor adds whole turns
+-- adding a multiple of the divisor adds the factor to the quotient
 pub floor_div-add : (z k : ℤ) (n : ℕ) → 0 < n → floor_div (z +ℤ k *ℤ pos n) n ≡ floor_div z n +ℤ k
 floor_div-add z k n h =
     let rest = euclid-rest z n h in

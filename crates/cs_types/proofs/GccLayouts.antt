@@ -1,5 +1,5 @@
 -- Twelve structs as gcc lays them out (12.2, under -m64, and under -m32 -malign-double, in which `long long` is aligned to
--- its eight bytes): a test of the layout that `size`, `align` and `leaf_at` give.
+-- its eight bytes): a test of the layout that `size`, `align` and `leaf_at` return.
 --
 -- The structs, by number:
 --  0  struct pair { char c; int i; }
@@ -31,7 +31,7 @@ member ty offset = record { name = []; ty = ty; offset = offset }
 abbrev laid : ℕ → ℕ → List Member → StructType
 laid size align members = record { tag = []; members = Some members; size = size; align = align }
 
--- what gcc says of sizes, alignments and offsets under -m64
+-- the sizes, alignments and offsets of gcc under -m64
 abbrev lp64 : List StructType
 lp64 =
     laid 8 4 (member (integer Char) 0 ∷ member (integer PlainInt) 4 ∷ []) ∷

@@ -20,7 +20,7 @@ pub option_or-None : (a : Option Shape) → option_or a None ≡ a
 option_or-None None = refl
 option_or-None (Some s) = refl
 
--- the scalars begin from low up to below high
+-- the scalars begin at offsets from low to below high
 abbrev pub Within : ℕ → ℕ → List Leaf → Type 0
 Within low high [] = Unit {0}
 Within low high (x ∷ xs) = (low ≤ x.offset) × (x.offset < high) × Within low high xs
@@ -49,7 +49,7 @@ scalar_at-moved by o (x ∷ xs) h =
     let same : (by + x.offset == o) ≡ (x.offset == (o - by)) = grind (arith, nat_tests) in
     ap (λ t. cond t (Some x.scalar) (scalar_at o (moved by xs))) same ∙ ap (cond (x.offset == (o - by)) (Some x.scalar)) (scalar_at-moved by o xs h)
 
--- a row of elements
+-- repeated elements
 pub Within-row : (n : ℕ) (e : Layout) → Within 0 e.size e.leaves → Within 0 (n * e.size) (row n e)
 Within-row zero e w = tt
 Within-row (suc n) e w =
@@ -79,20 +79,20 @@ row-at (suc n) zero o r e w h g eq =
 row-at (suc n) (suc q) o r e w h g eq =
     later-row o n e w (omega arith) ∙ row-at n q (o - e.size) r e w h (omega arith) (omega arith)
 
--- the scalar at an offset of a row is that at the rest of its element
+-- the scalar at an offset of repeated elements is that of the element at the remainder
 pub scalar_at-row : (n o : ℕ) (e : Layout) → Within 0 e.size e.leaves → 0 < e.size → o / e.size < n
     → scalar_at o (row n e) ≡ scalar_at (o % e.size) e.leaves
 scalar_at-row n o e w s h = row-at n (o / e.size) o (o % e.size) e w (omega arith) h (omega arith)
 
--- and none is past a row's end
+-- no scalar begins past the end of repeated elements
 pub scalar_at-row_end : (n o : ℕ) (e : Layout) → Within 0 e.size e.leaves → n * e.size ≤ o → scalar_at o (row n e) ≡ None
 scalar_at-row_end n o e w h = outside o 0 (n * e.size) (row n e) (Within-row n e w) (inr h)
 
--- rounding up does not lessen
+-- rounding up doesn't decrease a number
 pub round_up-least : (number n : ℕ) → 0 < n → number ≤ round_up number n
 round_up-least number n h = omega arith
 
--- a layout is as long as its scalars need, and its alignment divides
+-- the scalars of a layout lie within its size, and its alignment isn't 0
 pub record IsSound (l : Layout) : Type 0 where
   pub aligned : 0 < l.align
   pub within : Within 0 l.size l.leaves

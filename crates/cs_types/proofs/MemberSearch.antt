@@ -12,19 +12,19 @@ use Rattle.cs_types.specs.LeafSearch.{last_at}
 use Rattle.cs_types.proofs.Leaves.{Within, Within-moved, outside, scalar_at-append, scalar_at-moved, option_or-None, round_up-least, AllSound}
 use Rattle.cs_types.proofs.Nesting.{first_member}
 
--- what the layout of a found member has at the rest of an offset
+-- the scalar in the layout of the found member, at the rest of the offset
 abbrev pub at_member : (Shape → Option Layout) → ℕ → Option Member → Option Shape
 at_member of_type offset None = None
 at_member of_type offset (Some m) = option_and_then (λ (l : Layout). scalar_at (offset - m.offset) l.leaves) (of_type m.ty)
 
--- the last of more members
+-- the last of some members and more
 last_cases : (o : ℕ) (m found : Member) (later : Option Member) (t : Bool) → option_or later (cond t (Some m) None) ≡ Some found
     → (later ≡ Some found) ⊎ ((later ≡ None) × (t ≡ true) × (m ≡ found))
 last_cases o m found None true h = inr (refl, refl, cc)
 last_cases o m found None false h = absurd (cc)
 last_cases o m found (Some other) t h = inl h
 
--- a found member begins at or before the offset, and not before the first one may
+-- a found member begins at or before the offset, and not before the offset where the members start
 pub last_at-bounds : (o from : ℕ) (ms : List Member) (ls : List Layout) (found : Member) → map (λ (m : Member). m.offset) ms ≡ offsets from ls
     → AllSound ls → last_at o ms ≡ Some found → (from ≤ found.offset) × (found.offset ≤ o)
 last_at-bounds o from [] ls found e s h = absurd (cc)
@@ -44,7 +44,7 @@ last_at-bounds o from (m ∷ ms) (l ∷ ls) found e s h =
           (omega arith, omega arith)
     ]
 
--- where no later member is found, the first one has what there is
+-- if no later member is found, the scalar is that of the first one
 only_first : (of_type : Shape → Option Layout) (o at : ℕ) (m : Member) (l : Layout) → of_type m.ty ≡ Some l → m.offset ≡ at
     → Within 0 l.size l.leaves → (t : Bool) → nat_le m.offset o ≡ t → scalar_at o (moved at l.leaves) ≡ at_member of_type o (cond t (Some m) None)
 only_first of_type o at m l own begins w true is =
@@ -55,7 +55,7 @@ only_first of_type o at m l own begins w false is =
     let after : o < at = grind (arith, nat_tests) in
     outside o (at + 0) (at + l.size) (moved at l.leaves) (Within-moved at 0 l.size l.leaves w) (inl (omega arith))
 
--- the scalar at an offset of members side by side is that of the last one that begins at or before it
+-- the scalar at an offset of consecutive members is that of the last one that begins at or before it
 pub scalar_at-members : (of_type : Shape → Option Layout) (o from : ℕ) (ms : List Member) (ls : List Layout) → member_layouts of_type ms ≡ Some ls
     → map (λ (m : Member). m.offset) ms ≡ offsets from ls → AllSound ls
     → scalar_at o (side_by_side from ls).leaves ≡ at_member of_type o (last_at o ms)

@@ -16,7 +16,7 @@ use Rattle.cs_types.specs.Layout.{Layout, round_up, repeated, alone, side_by_sid
 use Rattle.cs_types.specs.LeafSearch.{layout_within}
 use Rattle.cs_types.proofs.Leaves.{Within-wider, Within-row, Within-side_by_side, side_by_side-aligned, round_up-least, IsSound, AllSound}
 
--- ---- parts of answers that are there
+-- -- parts of results that exist
 
 pub mapped : {A B : Type 0} (f : A → B) (o : Option A) (b : B) → option_map f o ≡ Some b → (a : A) × (o ≡ Some a) × (b ≡ f a)
 mapped f None b h = absurd (cc)
@@ -121,7 +121,7 @@ bytes_of-above model ULong = word_bytes-above model
 bytes_of-above model LLong = lit< tt
 bytes_of-above model ULLong = lit< tt
 
--- a function has sound layouts only
+-- a function returns only sound layouts
 abbrev pub GivesSound : {K : Type 0} → (K → Option Layout) → Type 0
 GivesSound {K} f = (k : K) (l : Layout) → f k ≡ Some l → IsSound l
 

@@ -13,7 +13,7 @@ use Rattle.cs_types.specs.Wrap.{wrap_quotient, wrapped}
 use Rattle.cs_types.proofs.FloorDivision.{sub_pos-*ℤ}
 use Rattle.cs_types.proofs.Wrapping.{wrap_quotient-add, wrapped-add}
 
--- a type reaches at most 2^63 below 0
+-- a type has at most 2^63 values below 0
 pub negatives-small : (model : DataModel) (ty : IntType) → negatives_of model ty ≤ 2 ^ 63
 negatives-small Lp64 Long = omega arith
 negatives-small Lp64 ULong = omega arith
@@ -29,7 +29,7 @@ negatives-small model UInt = omega arith
 negatives-small model LLong = omega arith
 negatives-small model ULLong = omega arith
 
--- a factor of `long long` times an integer of C, so small that the shift into a type's range doesn't overflow
+-- a factor of `long long` times an integer of C is small enough that the shift into a type's range doesn't overflow
 pub product-above : (l r : ℤ) → FitsSigned w64 l → IsIntegerOfC r → (pos 0 -ℤ pos (2 ^ 127 - 2 ^ 63)) ≤ℤ (l *ℤ r)
 product-above (pos a) (pos b) h g = omega (arith, ints)
 product-above (pos a) (negsuc b) h g = omega (arith, ints, small-below a b h.sfits (omega (arith, ints, g.from_least)))
@@ -65,7 +65,7 @@ shifted-fits model ty z above below = room z (negatives_of model ty) above below
         → FitsSigned w128 (z +ℤ pos n)
     room z n above below g = omega (arith, ints)
 
--- a product of which whole turns were taken off one factor
+-- a product, if a multiple of the modulus is subtracted from one factor
 split : (model : DataModel) (ty : IntType) (left right taken : ℤ) → taken *ℤ pos (modulus_of model ty) ≡ pos (2 ^ 64) *ℤ right
     → left *ℤ right ≡ (left -ℤ pos (2 ^ 64)) *ℤ right +ℤ taken *ℤ pos (modulus_of model ty)
 split model ty left right taken e = omega (arith, ints, sub_pos-*ℤ left (2 ^ 64) right, e)
@@ -80,7 +80,7 @@ pub wrapped-split : (model : DataModel) (ty : IntType) (left right taken : ℤ) 
 wrapped-split model ty left right taken e = ap (wrapped model ty) (split model ty left right taken e)
     ∙ wrapped-add model ty ((left -ℤ pos (2 ^ 64)) *ℤ right) taken
 
--- the turns of a product and those taken off a factor have a sum of 128 bits
+-- the sum of a product's quotient and that of the subtracted multiple fits 128 bits
 pub turns-fit : (a b : ℤ) → unsigned_abs a ≤ 2 ^ 119 → unsigned_abs b ≤ 2 ^ 120 → FitsSigned w128 (a +ℤ b)
 turns-fit (pos m) (pos n) h g = omega (arith, ints)
 turns-fit (pos m) (negsuc n) h g = omega (arith, ints)

@@ -8,7 +8,7 @@ use Rattle.cs_types.specs.declared.structs.StructType.{StructType}
 use Rattle.cs_types.specs.Shape.{struct}
 use Rattle.cs_types.specs.Layout.{Layout, IsLaidOut, IsLaid, layout_of, complete_of}
 
--- a complete struct stands in the table and has members
+-- a complete struct is in the table and has members
 pub record IsComplete (table : List StructType) (number : ℕ) (found : StructType) : Type 0 where
   pub members : List Member
   pub stands : slice_get table number ≡ Some found

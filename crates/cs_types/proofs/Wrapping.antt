@@ -50,12 +50,12 @@ shifted : (signed : Bool) (half n : ℕ) (z : ℤ)
 shifted true half n z = refl
 shifted false half n z = ap (λ x. floor_div x n) (sym (+ℤ_idr z))
 
--- one form of the quotient for both signs
+-- one form of the quotient for types of both signs
 pub wrap_quotient-shifted : (model : DataModel) (ty : IntType) (z : ℤ)
     → wrap_quotient model ty z ≡ floor_div (z +ℤ pos (negatives_of model ty)) (modulus_of model ty)
 wrap_quotient-shifted model ty z = shifted (has_sign ty) (2 ^ (8 * bytes_of model ty - 1)) (modulus_of model ty) z
 
--- the wrapped number is the euclidean rest of the shifted number, shifted back
+-- the wrapped number is the euclidean remainder of the shifted number, shifted back
 pub wrapped-rest : (model : DataModel) (ty : IntType) (z : ℤ)
     → wrapped model ty z ≡ int_rem_euclid (z +ℤ pos (negatives_of model ty)) (pos (modulus_of model ty)) -ℤ pos (negatives_of model ty)
 wrapped-rest model ty z =
@@ -74,14 +74,14 @@ in_range : (model : DataModel) (ty : IntType) (z rest : ℤ) (r below m : ℕ) �
     → z ≡ rest -ℤ pos below → rest ≡ pos r → r < m → below < m → InRange model ty z
 in_range model ty z rest r below m b e f g h k = record { from_least = rw (← b) (omega (arith, ints)); to_greatest = rw (← b, ← e) (omega (arith, ints)) }
 
--- a wrapped number is one of the type
+-- a wrapped number is in the range of the type
 pub wrapped-InRange : (model : DataModel) (ty : IntType) (z : ℤ) → InRange model ty (wrapped model ty z)
 wrapped-InRange model ty z =
     let rest = euclid-rest (z +ℤ pos (negatives_of model ty)) (modulus_of model ty) (omega (arith, modulus-large model ty)) in
     in_range model ty (wrapped model ty z) (int_rem_euclid (z +ℤ pos (negatives_of model ty)) (pos (modulus_of model ty))) rest.0 (negatives_of model ty)
     (modulus_of model ty) refl refl (wrapped-rest model ty z) rest.1 rest.2 (negatives-below model ty)
 
--- whole turns added to a number are added to its quotient
+-- adding a multiple of the modulus to a number adds the factor to its quotient
 pub wrap_quotient-add : (model : DataModel) (ty : IntType) (z k : ℤ)
     → wrap_quotient model ty (z +ℤ k *ℤ pos (modulus_of model ty)) ≡ wrap_quotient model ty z +ℤ k
 wrap_quotient-add model ty z k =
@@ -91,7 +91,7 @@ wrap_quotient-add model ty z k =
     wrap_quotient-shifted model ty (z +ℤ k *ℤ pos m) ∙ ap (λ x. floor_div x m) (moved z (k *ℤ pos m) b)
     ∙ floor_div-add (z +ℤ b) k m (omega (arith, modulus-large model ty)) ∙ ap (λ q. q +ℤ k) (sym (wrap_quotient-shifted model ty z))
 
--- and leave the wrapped number as it is
+-- and doesn't change the wrapped number
 pub wrapped-add : (model : DataModel) (ty : IntType) (z k : ℤ) → wrapped model ty (z +ℤ k *ℤ pos (modulus_of model ty)) ≡ wrapped model ty z
 wrapped-add model ty z k =
     let m : ℤ = pos (modulus_of model ty) in
@@ -101,7 +101,7 @@ wrapped-add model ty z k =
     cancelled : (number more taken taken' : ℤ) → taken' ≡ taken +ℤ more → (number +ℤ more) -ℤ taken' ≡ number -ℤ taken
     cancelled number more taken taken' e = omega (arith, ints)
 
--- the quotient of a number of 128 bits
+-- the quotient of a shifted number of 128 bits is small
 pub wrap_quotient-small : (model : DataModel) (ty : IntType) (z : ℤ) → FitsSigned w128 (z +ℤ pos (negatives_of model ty))
     → unsigned_abs (wrap_quotient model ty z) ≤ 2 ^ 119
 wrap_quotient-small model ty z h = rw wrap_quotient-shifted (floor_div-small _ (modulus_of model ty) (modulus-large model ty) h)

@@ -30,7 +30,7 @@ name_calm : (W : Kinds → Type 0) (s : List Phase) (n : Option (List ℕ)) (ts 
 name_calm W s None ts rs h = h
 name_calm W s (Some n) ts rs h = λ b. (refl, h (name_after b))
 
--- the parameter with other words
+-- the parameter with other specifiers
 abbrev with_specs : Parameter → Specs → Parameter
 with_specs p specs = record { specs = specs; pointers = p.pointers; name = p.name; bounds = p.bounds }
 
@@ -52,7 +52,7 @@ parameter_calm names W s p ts rs is other h =
     (name_calm (λ y. W (specs_text p.specs (pointers_text p.pointers y))) s p.name (brackets_text p.bounds ts) (brackets_roles p.bounds rs)
     (brackets_calm (λ y. W (specs_text p.specs (pointers_text p.pointers (name_text p.name y)))) s p.bounds ts rs h)))
 
--- what every parameter of a list has with the same name
+-- a property that every parameter with the same name has too
 abbrev Keeps : (Parameter → Type 0) → Type 0
 Keeps Also = (p other : Parameter) → other.name ≡ p.name → Also p → Also other
 
@@ -95,7 +95,7 @@ parameter_list names Also keeps W s (p ∷ ps) ts rs are also other h =
     (further_parameters names Also keeps (λ y. W (parameter_text p y)) s ps ts rs are.1 also.1
     (λ qs some all too. other (p ∷ qs) tt (not_alone p qs some) (are.0, all) (also.0, too)) h)
 
--- what every parameter has besides
+-- every parameter of a list has the property too
 abbrev AllAlso : (Parameter → Type 0) → Parameters → Type 0
 AllAlso Also (ParameterList ps) = AreAll Also ps
 AllAlso Also other = Unit {0}
@@ -133,7 +133,7 @@ head_calm names Also keeps W s head ts rs is also other h =
       ),
     ))
 
--- other words with the same types
+-- other specifiers with the same words
 exchanged : (names : Names) (specs others : Specs) → AreSpecs names specs → words_of others ≡ words_of specs → HaveBodies names others
     → AreSpecs names others
 exchanged names specs others are same bodies = (subst (λ ws. IsTrue (is_type names ws)) (sym same) are.0, bodies)
@@ -212,7 +212,7 @@ declared_reported W Outside next role t e = absurd (false≢true (sym t ∙ ap i
 declared_reported W Typing next role t e = absurd (false≢true (sym t ∙ ap is_member e))
 declared_reported W Typed next role t e = absurd (false≢true (sym t ∙ ap is_member e))
 
--- what stands after a member's declarator stands at such a spot
+-- at the position after a member's declarator, the spot is of this kind
 spot_of_role : (W : Kinds → Type 0) (s : Spot) (front more : Kinds) (rs : Roles) → Trace W s (front ++ more) rs
     → slice_get rs (length front) ≡ Some after_member → is_declared (run front s).phase ≡ true
 spot_of_role W s [] [] [] t e = cc
@@ -229,7 +229,7 @@ reported_declared W Outside next role e t = absurd (false≢true e)
 reported_declared W Typing next role e t = absurd (false≢true e)
 reported_declared W Typed next role e t = absurd (false≢true e)
 
--- at such a spot a semicolon may stand
+-- at such a spot a semicolon may follow
 semicolon_goes_on : (W : Kinds → Type 0) (s : Spot) (front more : Kinds) (rs : Roles) → Trace W s (front ++ more) rs
     → is_declared (run front s).phase ≡ true → (rest : Kinds) × W (front ++ token.Punctuator punctuator.Semicolon ∷ rest)
 semicolon_goes_on W s [] [] [] t e = absurd (false≢true (sym t ∙ e))

@@ -31,7 +31,7 @@ use Rattle.cs_unsupported.specs.declared.inside.Tagging.TheVariants as tagging
 use Rattle.cs_unsupported.specs.Sites.{tag_after}
 use Rattle.cs_unsupported.proofs.InsideTraces.{Telling, Calm, pointers_calm, word_calm, expression_calm}
 
--- no word is `static` or has a body
+-- no specifier is `static` or has a body
 abbrev pub ArePlain : Specs → Type 0
 ArePlain NoSpec = Unit {0}
 ArePlain (MoreSpecs (Plain w) others) = ArePlain others

@@ -50,7 +50,7 @@ opened = token.Punctuator punctuator.OpenBrace
 abbrev closed : TokenKind
 closed = token.Punctuator punctuator.CloseBrace
 
--- some tokens that begin so go on to a whole
+-- each text of this class can be continued to a whole
 abbrev Whole : {A : Type 0} → (A → Type 0) → (A → Kinds → Kinds) → (Kinds → Type 0) → Type 0
 Whole {A} Is spell W = (a : A) → Is a → (more : Kinds) × W (spell a more)
 
@@ -58,7 +58,7 @@ Whole {A} Is spell W = (a : A) → Is a → (more : Kinds) × W (spell a more)
 ended : (t : Telling) (o : t.out) (W : Kinds → Type 0) (k : TokenKind) (r : Role) → Goes W → (k ≡ plus → ⊥) → ReportedIn t W k r
 ended t o W k r g other = (o, (inr g, λ e. absurd (other e)))
 
--- an expression goes on where one that is longer might stand
+-- an expression can be continued by an operator if a longer one is allowed in its place
 goes_after : (W : Kinds → Type 0) (e : Written) → (more : Kinds) × W (text (longer e) more) → Goes (λ y. W (text e y))
 goes_after W e g = (text nought g.0, subst W (longer_text e g.0) g.1)
 
@@ -156,7 +156,7 @@ mutual
             (λ its all. let w = g (Listed (MoreInitials first its) false) (is.0, all) in (closed ∷ w.0, w.1)) h.1),
       )
 
-  -- further items, and the brace after them
+  -- more items, and the brace after them
   further_trace : (t : Telling) (o : t.out) (names : Names) (W : Kinds
       → Type 0) (q : Where) (s : List Where) (i : Initials) (last : Bool) (ts : Kinds) (rs : Roles) → AreInitials names i
       → Whole (AreInitials names) further_initials_text W
@@ -220,7 +220,7 @@ object_trace t o names W s d ts rs is g h =
     (λ i all. g (record { declarator = d.declarator; initial = i }) (record { declarator = is.declarator; initial = all }))
     (record { plain = h.plain; valued = h.valued; listed = h.listed }))
 
--- further objects, and the semicolon after them
+-- more objects, and the semicolon after them
 further_objects : (t : Telling) (o : t.out) (names : Names) (W : Kinds → Type 0) (s : List Where) (ds : List DeclaredObject) (ts : Kinds) (rs : Roles)
     → AreAll (IsDeclared names) ds → Whole (AreAll (IsDeclared names)) (each_after_comma declared_text) W
     → Trace t (λ y. W (each_after_comma declared_text ds (semicolon ∷ y))) (site Declaration tagging.Nothing s) ts rs
@@ -306,7 +306,7 @@ constants_trace t o names W q s (c ∷ cs) last ts rs some are g h =
     (λ c' is. g (c' ∷ []) (tt, (is, tt)))
     (further_constants t o names (λ y. W (constant_text c y)) q s cs last ts rs are.1 (λ cs' all. g (c ∷ cs') (tt, (are.0, all))) h)
 
--- the same words with other bodies may stand in their place
+-- the same words with other bodies are allowed in their place
 abbrev Exchanges : (Kinds → Type 0) → Names → Specs → Type 0
 Exchanges W names specs = (others : Specs) → words_of others ≡ words_of specs → HaveBodies names others → (more : Kinds) × W (specs_text others more)
 
@@ -484,12 +484,12 @@ head_calm t o names W s head ts rs is g h =
       ),
     ))
 
--- other words with the same types
+-- other specifiers with the same words
 exchanged : (names : Names) (specs others : Specs) → AreSpecs names specs → words_of others ≡ words_of specs → HaveBodies names others
     → AreSpecs names others
 exchanged names specs others are same bodies = (subst (λ ws. IsTrue (is_type names ws)) (sym same) are.0, bodies)
 
--- a function's type and head, after which what follows may differ
+-- a function's specifiers and head, after which the rest may differ
 pub headed : (t : Telling) (o : t.out) (names : Names) (W : Kinds → Type 0) (specs : Specs) (head : Head) (ts : Kinds) (rs : Roles) → AreSpecs names specs
     → IsHead names head → ((specs : Specs) (head : Head) → AreSpecs names specs → IsHead names head
     → (more : Kinds) × W (specs_text specs (head_text head more)))
@@ -500,7 +500,7 @@ headed t o names W specs head ts rs are is g h =
     (λ x same all. let w = g x head (exchanged names specs x are same all) is in (head_text head w.0, w.1))
     (head_calm t o names (λ y. W (specs_text specs y)) [] head ts rs is (λ h' all. g specs h' are all) h) tagging.Nothing
 
--- a part of a file that is no function's body
+-- an external declaration that isn't a function with a body
 abbrev pub IsBodiless : External → Type 0
 IsBodiless (Definition specs head body) = ⊥
 IsBodiless other = Unit {0}

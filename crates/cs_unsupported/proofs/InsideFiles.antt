@@ -32,7 +32,7 @@ opened = token.Punctuator punctuator.OpenBrace
 abbrev closed : TokenKind
 closed = token.Punctuator punctuator.CloseBrace
 
--- a function's type and head, and what stands in its body
+-- a function's specifiers and head, and its body
 definition_trace : (t : Telling) (k : t.blk) (o : t.out) (names : Names) (W : Kinds
     → Type 0) (specs : Specs) (head : Head) (body : Items) (ts : Kinds) (rs : Roles) → IsExternal names (Definition specs head body)
     → ((e : External) → IsExternal names e → (more : Kinds) × W (external_text e more))
@@ -66,14 +66,14 @@ file_trace t k o ends names W (e ∷ es) is g =
 abbrev IsText : Kinds → Type 0
 IsText kinds = (f : List External) × IsFile [] f × (file_text f ≡ kinds)
 
--- nothing is asked, but that the file ends outside of blocks and expressions
+-- nothing is required, except that the file ends outside of blocks and expressions
 abbrev asked_nothing : Telling
 asked_nothing = record { blk = Unit {0}; out = Unit {0}; ends = λ s. is_inside s.within ≡ false }
 
 text_trace : (f : List External) → IsFile [] f → Trace asked_nothing IsText the_first (file_text f) (file_roles f)
 text_trace f is = file_trace asked_nothing tt tt refl [] IsText f is (λ other are. (other, are, refl))
 
--- what is known at a token
+-- what is known about the next token
 record Here (t : Telling) (W : Kinds → Type 0) (s : Site) (front more : Kinds) (rs : Roles) : Type 0 where
   next : TokenKind
   rest : Kinds
@@ -94,7 +94,7 @@ here t W s (k ∷ front) more (r ∷ rs) x =
       | inr h ↦ inr (record { next = h.next; rest = h.rest; role = h.role; more_is = h.more_is; role_is = h.role_is; reported = h.reported })
     ]
 
--- a token of an expression stands inside
+-- a token of an expression is inside
 inner_inside : (t : Telling) (W : Kinds → Type 0) (w : Where) (k : TokenKind) (r : Role) → Reported t W w k r → is_inner r ≡ true
     → is_inside w ≡ true
 inner_inside t W (Inside p) k r x e = refl
@@ -119,7 +119,7 @@ role_inside front role e m =
           inner_inside asked_nothing (λ y. IsText (front ++ y)) (run front the_first).within h.next h.role h.reported (ap is_inner r ∙ e)
     ]
 
--- what an expression's token is asked
+-- what is required of an expression's token
 reported_inside : (t : Telling) (W : Kinds → Type 0) (p : Part) (k : TokenKind) (r : Role) → is_in_body (Inside p) ≡ false → Reported t W (Inside p) k r
     → ((is_inner r ≡ true) ⊎ Goes W) × (k ≡ plus → is_inner r ≡ true)
 reported_inside t W part.Body k r e x = absurd (false≢true (sym e))
@@ -145,15 +145,15 @@ run_more : (a b : Kinds) (s : Site) → run (a ++ b) s ≡ run b (run a s)
 run_more [] b s = refl
 run_more (k ∷ a) b s = run_more a b (step k s)
 
--- no token stands in a body, and the tokens end as they began
+-- no token is in a body, and the site after the tokens is the first one
 abbrev outside : Telling
 outside = record { blk = ⊥; out = Unit {0}; ends = λ s. s ≡ the_first }
 
--- the tokens end as they began
+-- the site after the tokens is the first one
 abbrev anywhere : Telling
 anywhere = record { blk = Unit {0}; out = Unit {0}; ends = λ s. s ≡ the_first }
 
--- each token stands in a body
+-- each token is in a body
 abbrev bodily : Telling
 bodily = record { blk = Unit {0}; out = ⊥; ends = λ s. is_in_body s.within ≡ true }
 
@@ -186,7 +186,7 @@ reported_outside W ListedValue k r x e = false≢true e
 reported_outside W Constants k r x e = false≢true e
 reported_outside W ListedItem k r x e = false≢true e
 
--- the tokens of a function's type and head
+-- the tokens of a function's specifiers and head
 abbrev headed_text : Specs → Head → Kinds
 headed_text specs head = specs_text specs (head_text head [])
 
@@ -200,7 +200,7 @@ headed_more specs head x = sym (specs_append specs (head_text head []) x ∙ ap 
 externals_end : (names : Names) (f : List External) → IsFile names f → run (file_text f) the_first ≡ the_first
 externals_end names f is = end_of anywhere Any the_first (file_text f) (file_roles f) (file_trace anywhere tt tt refl names Any f is (λ other are. tt))
 
--- the beginning of some parts of a file is a file
+-- the first external declarations of a file are a file
 first_parts : (names : Names) (before after : List External) → IsFile names (before ++ after) → IsFile names before
 first_parts names [] after is = tt
 first_parts names (e ∷ before) after is = (is.0, first_parts (names_after names e) before after is.1)
@@ -246,7 +246,7 @@ block_inside front b =
     ∙ run_more headed' (opened ∷ b.inside) the_first ∙ ap (run (opened ∷ b.inside)) second in
     ap (λ (s : Site). is_inside s.within) all ∙ in_body_inside (run b.inside in_the_body).within (body_stays e.0 b.body b.inside b.more d.3 b.within)
 
--- two lists in front of others that are the same
+-- two lists with the same concatenation, one split further than the other
 pub split : (a b f m : Kinds) → a ++ b ≡ f ++ m → ((d : Kinds) × (f ≡ a ++ d) × (b ≡ d ++ m))
     ⊎ ((c : TokenKind) × (d : Kinds) × (a ≡ f ++ c ∷ d))
 split [] b f m e = inl (f, refl, e)
@@ -258,7 +258,7 @@ split (x ∷ a) b (y ∷ f) m e =
       | inr s ↦ inr (s.0, s.1, ap (λ z. x ∷ z) s.2 ∙ ap (λ z. z ∷ (f ++ s.0 ∷ s.1)) k)
     ]
 
--- tokens before the last one
+-- the tokens before the last one
 but_last : (i inside : Kinds) (z c : TokenKind) (d : Kinds) → i ++ z ∷ [] ≡ inside ++ c ∷ d → (more : Kinds) × (i ≡ inside ++ more)
 but_last i [] z c d e = (i, refl)
 but_last [] (x ∷ []) z c d e = absurd cc
@@ -268,7 +268,7 @@ but_last (w ∷ i) (x ∷ inside) z c d e =
     let r = but_last i inside z c d cc in
     (r.0, ap (λ y. w ∷ y) r.1 ∙ ap (λ y. y ∷ (inside ++ r.0)) k)
 
--- the place is inside the body of some part of the file
+-- the position is inside the body of a function of the file
 record Found (names : Names) (front : Kinds) : Type 0 where
   before : List External
   specs : Specs
@@ -280,7 +280,7 @@ record Found (names : Names) (front : Kinds) : Type 0 where
   within : items_text body [] ≡ inside ++ more
   spelled : front ≡ externals_text before (specs_text specs (head_text head (opened ∷ inside)))
 
--- a token of these isn't in a body
+-- none of these tokens is in a body
 not_there : (front more : Kinds) (c : TokenKind) (ks : Kinds) (rs : Roles) → ks ≡ front ++ c ∷ more → Trace outside Any the_first ks rs
     → is_in_body (run front the_first).within ≡ true → ⊥
 not_there front more c ks rs e x b =
@@ -348,7 +348,7 @@ external_end : (names : Names) (e : External) → IsExternal names e → run (ex
 external_end names e is = end_of anywhere Any the_first (external_text e []) (external_roles e [])
     (external_trace anywhere tt tt names Any e [] [] is (λ e' is'. ([], tt)) refl)
 
--- the tokens end within a part of the file
+-- the tokens end within an external declaration
 found_in : (names : Names) (e : External) (front : Kinds) (c : TokenKind) (d : Kinds) → IsExternal names e → external_text e [] ≡ front ++ c ∷ d
     → is_in_body (run front the_first).within ≡ true → Found names front
 found_in names (Definition specs head body) front c d is e b = found_here names specs head body front c d is e b
@@ -393,7 +393,7 @@ in_block front f b =
       spelled = r.spelled;
     }
 
--- an operator might go on
+-- an operator might continue
 operator_inside : (front : Kinds) (p : Part) → (run front the_first).within ≡ Inside p → is_in_body (Inside p) ≡ false
     → Goes (λ y. IsText (front ++ y)) → IsInside front
 operator_inside front p w n g =

@@ -45,17 +45,17 @@ is_inner other = false
 abbrev pub plus : TokenKind
 plus = token.Punctuator punctuator.Plus
 
--- what is asked of each site in a body, of each other one, and of the one after the last token
+-- what is required of each site in a body, of each other site, and of the one after the last token
 pub record Telling : Type 1 where
   pub blk : Type 0
   pub out : Type 0
   pub ends : Site → Type 0
 
--- an operator goes on
+-- an operator continues
 abbrev pub Goes : (Kinds → Type 0) → Type 0
 Goes W = (more : Kinds) × W (plus ∷ more)
 
--- in an expression a token of one stands, or might: an operator, which then is one
+-- in an expression, the token is one of the expression, or an operator might be next; an operator is a token of the expression
 abbrev pub ReportedIn : Telling → (Kinds → Type 0) → TokenKind → Role → Type 0
 ReportedIn t W next role = t.out × (((is_inner role ≡ true) ⊎ Goes W) × (next ≡ plus → is_inner role ≡ true))
 
@@ -77,7 +77,7 @@ site within following around = record { within = within; following = following; 
 abbrev pub Calm : Telling → (Kinds → Type 0) → Where → List Where → Kinds → Roles → Type 0
 Calm t W within around tokens roles = (following : Tagging) → Trace t W (site within following around) tokens roles
 
--- what is asked in such a place
+-- what is required at such a site
 abbrev pub Asked : Telling → Part → Type 0
 Asked t part.Body = t.blk
 Asked t part.BodyChoice = t.blk
@@ -112,7 +112,7 @@ asked_chosen t part.Item a = a
 asked_chosen t part.Nested a = a
 asked_chosen t part.Choice a = a
 
--- a comma doesn't end what stands in such a place
+-- a comma doesn't end what is at such a site
 abbrev pub keeps_commas : Part → Bool
 keeps_commas part.Value = false
 keeps_commas part.Constant = false
@@ -150,7 +150,7 @@ colon_step t W part.Choice s ts rs b h = h
 colon_step t W part.Body s ts rs b h = h
 colon_step t W part.BodyChoice s ts rs b h = h
 
--- the punctuator leaves tokens where they are
+-- the punctuator doesn't change the site
 abbrev is_plain : Punctuator → Bool
 is_plain punctuator.OpenBrace = false
 is_plain punctuator.OpenParenthesis = false
@@ -263,7 +263,7 @@ type_calm t p a W s (word.Enum n ∷ ws) ps ts rs h =
       ),
     )
 
--- the expression may stand in such a place: no comma of it ends what stands there
+-- the expression is allowed at such a site: none of its commas ends what is there
 abbrev pub Fits : Part → Written → Type 0
 Fits p e = (keeps_commas p ≡ true) ⊎ (1 ≤ level_of e)
 

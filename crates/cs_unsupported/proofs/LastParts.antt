@@ -37,11 +37,11 @@ get_after (suc n) i (r ∷ rs) =
     let e : suc n + i ≡ suc (n + i) = omega arith in
     ap (slice_get (r ∷ rs)) e ∙ get_after n i rs
 
--- the tokens of one part more
+-- the number of tokens with one more external declaration
 count_more : (d : External) (ds : List External) → length (externals_text (d ∷ ds) []) ≡ length (external_text d []) + length (externals_text ds [])
 count_more d ds = ap length (sym (external_append d [] (externals_text ds []))) ∙ length-append (external_text d []) (externals_text ds [])
 
--- the roles of a file after those of some parts
+-- the roles of a file after those of its first external declarations
 role_after : (names : Names) (done others : List External) (i : ℕ) → IsFile names (done ++ others)
     → slice_get (file_roles (done ++ others)) (length (externals_text done []) + i) ≡ slice_get (file_roles others) i
 role_after names [] others i is =
@@ -55,7 +55,7 @@ role_after names (d ∷ ds) others i is =
     ∙ ap (λ (rs : Roles). slice_get rs (length (externals_text ds []) + i)) (roles_after names d (file_roles (ds ++ others)) is.0)
     ∙ role_after (names_after names d) ds others i is.1
 
--- the last token of a part
+-- an external declaration has a last token
 record HasEnd (tokens : Kinds) : Type 0 where
   before : Kinds
   last : TokenKind
@@ -116,7 +116,7 @@ some_end tokens h =
     let l : length tokens ≡ length h.before + 1 = ap length h.spelled ∙ length-append h.before (h.last ∷ []) in
     omega (arith, l)
 
--- the last token of some parts closes no type
+-- the last token of the first external declarations closes no type
 none_at_end : (names : Names) (done others : List External) (last : ℕ) → IsFile names (done ++ others) → length (externals_text done []) ≡ suc last
     → slice_get (file_roles (done ++ others)) last ≡ Some closes_type → ⊥
 none_at_end names [] others last is n there = absurd (omega (arith, n))
@@ -140,7 +140,7 @@ none_at_end names (d ∷ c ∷ ds) others last is n there =
     ∙ ap (λ (rs : Roles). slice_get rs i) (roles_after names d (file_roles ((c ∷ ds) ++ others)) is.0))
     ∙ there)
 
--- the last token in such a part
+-- the last token is in such an external declaration
 last_in : (names : Names) (front : Kinds) (from : ℕ) (file : List External) (last : ℕ) → from ≤ length front → length front ≡ suc last
     → IsFile [] file → (p : EndsInPart names front from file) → slice_get (file_roles file) last ≡ Some closes_type
     → IsTrue (run names (drop from front) the_outside false)
@@ -170,7 +170,7 @@ nothing_reported : (names : Names) (part : Kinds) → length part ≡ 0 → IsTr
 nothing_reported names [] n reported = false≢true reported
 nothing_reported names (k ∷ part) n reported = absurd (omega (arith, n))
 
--- and where it closes a type
+-- and if it closes a type
 role_in : (names : Names) (front more : Kinds) (from : ℕ) (file : List External) → from ≤ length front → IsFile [] file
     → file_text file ≡ front ++ more → (p : EndsInPart names front from file) → IsTrue (run names (drop from front) the_outside false)
     → IsAfterType front
@@ -210,7 +210,7 @@ front_in names front from less b split = (
       last_in names front from c.file following.last less following.number c.is_file (split c.file c.more c.is_file c.spelled) c.there,
 )
 
--- the tokens from an index on
+-- the tokens from an index
 pub kinds_sliced : (from : ℕ) (tokens : List Token) → kinds (take (length tokens - from) (drop from tokens)) ≡ drop from (kinds tokens)
 kinds_sliced from tokens =
     let l = length-drop from tokens in

@@ -170,7 +170,7 @@ list_role : (r : Role) → is_list r ≡ true → r ≡ opens_list
 list_role opens_list e = refl
 list_role _ e = absurd (false≢true e)
 
--- after the tokens stands a brace, and a value is awaited there
+-- the next token is a brace, and an initializer is expected there
 found : (b : Bool) (front more : Kinds) (rs : Roles) → Trace b (front ++ more) rs → slice_get rs (length front) ≡ Some opens_list
     → (run front b ≡ true) × ((rest : Kinds) × (more ≡ brace ∷ rest))
 found b [] [] [] t e = cc
@@ -184,7 +184,7 @@ found b [] (k ∷ more) (r ∷ rs) t e =
 found b (k ∷ front) more [] t e = absurd t
 found b (k ∷ front) more (r ∷ rs) t e = found (step k b) front more rs t.1 e
 
--- a brace where a value is awaited opens a list
+-- a brace where an initializer is expected opens a list
 opened : (b : Bool) (front more : Kinds) (rs : Roles) → Trace b (front ++ brace ∷ more) rs → run front b ≡ true
     → slice_get rs (length front) ≡ Some opens_list
 opened b [] more [] t e = absurd t

@@ -33,28 +33,28 @@ use Rattle.cs_grammar.specs.Roles.{declarator_roles, value_roles, constant_roles
 use Rattle.cs_grammar.specs.Roles.{further_initials_roles, first_value_roles, declared_roles}
 use Rattle.cs_unsupported.specs.Awaiting.{step}
 
--- the role is that of a brace that opens a list of initial values
+-- the role is that of a brace that opens an initializer list
 abbrev pub is_list : Role → Bool
 is_list opens_list = true
 is_list other = false
 
--- the token opens such a list, where it is known whether a value is awaited
+-- the token opens such a list, given whether an initializer is expected
 abbrev pub opens : TokenKind → Bool → Bool
 opens (token.Punctuator punctuator.OpenBrace) awaits = awaits
 opens other awaits = false
 
--- each of some tokens has the role of a list's brace exactly where it is a brace and a value is awaited
+-- each of some tokens has the role of a list's brace exactly if it is a brace and an initializer is expected
 abbrev pub Trace : Bool → Kinds → Roles → Type 0
 Trace awaits [] [] = Unit {0}
 Trace awaits [] (role ∷ roles) = ⊥
 Trace awaits (next ∷ tokens) [] = ⊥
 Trace awaits (next ∷ tokens) (role ∷ roles) = (is_list role ≡ opens next awaits) × Trace (step next awaits) tokens roles
 
--- the same whether a value is awaited or not
+-- the same, whether an initializer is expected or not
 abbrev pub Calm : Kinds → Roles → Type 0
 Calm tokens roles = (awaits : Bool) → Trace awaits tokens roles
 
--- the same where none is
+-- the same if none is expected
 abbrev pub Quiet : Kinds → Roles → Type 0
 Quiet tokens roles = Trace false tokens roles
 
@@ -129,12 +129,12 @@ type_calm (word.Typedef n ∷ ws) ps ts rs h = λ b. (refl, type_calm ws ps ts r
 type_calm (word.Struct n ∷ ws) ps ts rs h = λ b. (refl, (refl, type_calm ws ps ts rs h false))
 type_calm (word.Enum n ∷ ws) ps ts rs h = λ b. (refl, (refl, type_calm ws ps ts rs h false))
 
--- the other way round, where an equation has to be stated in the order of the roles
+-- an equation, turned to the order of the roles
 turned : (b : Bool) → b ≡ false → false ≡ b
 turned b e = cc
 
 mutual
-  -- an expression, after which no value is awaited
+  -- an expression, after which no initializer is expected
   pub expression_calm : (e : Written) (ts : Kinds) (rs : Roles) → Quiet ts rs → Calm (text e ts) (roles e rs)
   expression_calm (Named n) ts rs h = λ b. (refl, h)
   expression_calm (Numeral n) ts rs h = λ b. (refl, h)
@@ -218,7 +218,7 @@ comma_calm : (comma : Bool) (ts : Kinds) (rs : Roles) → Calm ts rs → Calm (c
 comma_calm false ts rs h = h
 comma_calm true ts rs h = λ b. (refl, h true)
 
--- what some part of a list is, whether a value is awaited before it or not
+-- the parts of a list, whether an initializer is expected before them or not
 abbrev pub Calms : {A : Type 0} → (A → Kinds → Kinds) → (A → Roles → Roles) → Type 0
 Calms {A} g f = (a : A) (ts : Kinds) (rs : Roles) → Calm ts rs → Calm (g a ts) (f a rs)
 
@@ -276,7 +276,7 @@ mutual
             ),
       )
 
-  -- what stands before declarators
+  -- specifiers
   pub specs_calm : (s : Specs) (ts : Kinds) (rs : Roles) → Calm ts rs → Calm (specs_text s ts) (specs_roles s rs)
   specs_calm NoSpec ts rs h = h
   specs_calm (MoreSpecs first others) ts rs h = spec_calm first (specs_text others ts) (specs_roles others rs) (specs_calm others ts rs h)
@@ -290,7 +290,7 @@ mutual
       (after_member ∷ members_roles m rs) (λ b. (refl, members_calm m ts rs h false)))
 
 mutual
-  -- an initial value, which is awaited
+  -- an initializer, where one is expected
   initial_awaited : (i : Initial) (ts : Kinds) (rs : Roles) → Calm ts rs → Trace true (initial_text i ts) (initial_roles i rs)
   initial_awaited (Single e) ts rs h = expression_calm e ts rs (h false) true
   initial_awaited (Listed items comma) ts rs h = (

@@ -37,7 +37,7 @@ longer (Assign op l r) = Assign op l (longer r)
 longer (Comma l r) = Comma l (longer r)
 longer e = summed e
 
--- what stands after the expression
+-- the tokens by which the expression continues
 abbrev pub following : Kinds → Kinds
 following z = plus ∷ text nought z
 

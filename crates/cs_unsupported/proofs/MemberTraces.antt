@@ -28,7 +28,7 @@ use Rattle.cs_unsupported.specs.declared.members.Last.TheVariants as last
 use Rattle.cs_unsupported.specs.Spots.{name_after, step}
 use Rattle.cs_unsupported.proofs.Traces.{Trace, spot, Calm, word_calm, some_calm, comma_calm, list_calm, constant_calm}
 
--- `struct` or `enum` stands last
+-- the last token is `struct` or `enum`
 abbrev is_tagging : Last → Bool
 is_tagging last.Struct = true
 is_tagging last.Enum = true
@@ -38,7 +38,7 @@ name_settled : (b : Last) → is_tagging (name_after b) ≡ false
 name_settled last.Struct = refl
 name_settled _ = refl
 
--- a semicolon goes on
+-- a semicolon continues
 abbrev Ends : (Kinds → Type 0) → Type 0
 Ends W = (more : Kinds) × W (token.Punctuator punctuator.Semicolon ∷ more)
 
@@ -92,7 +92,7 @@ declarator_trace names W s d ts rs is ends h =
           ok,
     ))
 
--- further declarators, and the semicolon after them
+-- more declarators, and the semicolon after them
 further_trace : (names : Names) (W : Kinds → Type 0) (s : List Phase) (ds : List Declarator) (ts : Kinds) (rs : Roles) → AreAll (IsMember names) ds
     → W (token.Punctuator punctuator.Semicolon ∷ ts)
     → ((others : List Declarator) → IsSomeList others → AreAll (IsMember names) others
@@ -127,7 +127,7 @@ declarators_trace names W s (d ∷ ds) ts rs some are ends h =
     (further_trace names (λ y. W (declarator_text d y)) s ds ts rs are.1 (ends (d ∷ []) tt (are.0, tt))
     (λ others one all. ends (d ∷ others) tt (are.0, all)) h)
 
--- the words of one type: a whole type's alone, or words of integer types
+-- the words of a type: only one that names a whole type, or words of integer types
 both_true : (a b : Bool) → a && b ≡ true → a ≡ true
 both_true true b e = refl
 both_true false b e = absurd (false≢true e)
@@ -168,7 +168,7 @@ integer_typing W s Long ts rs b h = h
 integer_typing W s Signed ts rs b h = h
 integer_typing W s Unsigned ts rs b h = h
 
--- further words of a type of members
+-- more words of a type of members
 typed_trace : (W : Kinds → Type 0) (s : List Phase) (specs : Specs) (ts : Kinds) (rs : Roles)
     → list_all is_integer_word (named_by (words_of specs)) ≡ true
     → ((b : Last) → is_tagging b ≡ false → Trace (λ y. W (specs_text specs y)) (spot Typed b s) ts rs) → (b : Last) → is_tagging b ≡ false
@@ -196,7 +196,7 @@ HasMembers NoSpec = ⊥
 HasMembers (MoreSpecs (StructBody tag members) others) = Unit {0}
 HasMembers (MoreSpecs other others) = HasMembers others
 
--- the same words with other members may stand in their place
+-- the same words with other members are allowed in their place
 abbrev pub Exchanges : (Kinds → Type 0) → Names → Specs → Kinds → Type 0
 Exchanges W names specs ts = (others : Specs) → words_of others ≡ words_of specs → HaveBodies names others → HasMembers others
     → W (specs_text others ts)
@@ -329,7 +329,7 @@ mutual
     ),
   )
 
--- what stands before declarators outside of members
+-- specifiers outside of members
 pub specs_calm : (names : Names) (W : Kinds → Type 0) (s : List Phase) (specs : Specs) (ts : Kinds) (rs : Roles) → HaveBodies names specs
     → Exchanges W names specs ts → Calm (λ y. W (specs_text specs y)) s ts rs → Calm W s (specs_text specs ts) (specs_roles specs rs)
 specs_calm names W s NoSpec ts rs have other h = h

@@ -62,7 +62,7 @@ pub record Kind (x : NewName) : Type 1 where
   pub made : (e : Written) → IsPhrase x.names 2 e → IsBoundHere (Some e)
   pub phrase : (e : Written) → IsBoundHere (Some e) → IsPhrase x.names 2 e
 
--- those of objects, and those of members
+-- the declarators of objects, and those of members
 abbrev pub object : (x : NewName) → Kind x
 object x = record { IsName = IsFree x.names; IsBoundHere = IsBound x.names; new = x.free; made = λ e p. p; phrase = λ e p. p }
 
@@ -95,7 +95,7 @@ brackets_trace x k W us qs (Some e ∷ bs) ts rs are g h =
           ),
     )
 
--- pointers and such a name may stand before these tokens
+-- pointers and such a name may come before these tokens
 abbrev Pointed : World → (List PointerWord → Type 0) → (List ℕ → Type 0) → Kinds → Roles → Type 0
 Pointed W ArePointers IsName us qs =
     (ps : List PointerWord) (m : List ℕ) → ArePointers ps → IsName m
@@ -117,7 +117,7 @@ star_next new W Listed r d = inr d
 star_next new W Open r d = tt
 star_next new W Barred r d = tt
 
--- further pointers and the name
+-- more pointers and the name
 further_pointed : (new : List ℕ) (W : World) (IsName : List ℕ
     → Type 0) (us : Kinds) (qs : Roles) (ps : List PointerWord) (m : List ℕ) (ts : Kinds) (rs : Roles) → IsName m → IsName new
     → Pointed W AnyPointers IsName us qs
@@ -159,7 +159,7 @@ pointed_trace new W IsName us qs j (pointer.Star ∷ ps) m ts rs clear right is 
 )
 pointed_trace new W IsName us qs j (pointer.Const ∷ ps) m ts rs clear right is free g h = absurd (false≢true right)
 
--- what is said of each of a kind, where these places may be before it and such others may stand in its place
+-- what holds for each phrase of a kind, after these joints, if others of this kind are allowed in its place
 abbrev pub Each : {A : Type 0} → List ℕ → (Joint → Type 0) → (A → Kinds → Kinds) → (A → Roles → Roles) → (A → Type 0) → (A → Type 0)
     → Type 1
 Each {A} new Before of roles_of Is Other =
@@ -167,7 +167,7 @@ Each {A} new Before of roles_of Is Other =
     → ((other : A) → Is other → Other other → W (of other us) (roles_of other qs)) → Trace new (λ y q. W (of a y) (roles_of a q)) Open ts rs
     → Trace new W j (of a ts) (roles_of a rs)
 
--- one of these is such a one
+-- it holds for one of the list
 abbrev pub OneIs : {A : Type 0} → (A → Type 0) → List A → Type 0
 OneIs Is [] = ⊥
 OneIs Is (a ∷ all) = Is a ⊎ OneIs Is all
@@ -188,7 +188,7 @@ commas_each new Before of roles_of Is Other one listed r e W us qs (a ∷ all) t
       (λ all' is other. g (a ∷ all') (are.0, is) (inr other)) h),
 )
 
--- a list of them, one at least
+-- a list of at least one of them
 pub list_each : {A : Type 0} (new : List ℕ) (Before : Joint → Type 0) (of : A → Kinds → Kinds) (roles_of : A → Roles → Roles) (Is Other : A
     → Type 0) → Each new Before of roles_of Is Other → Before Listed → (r : Role) → is_name r ≡ false
     → (W : World) (us : Kinds) (qs : Roles) (j : Joint) (all : List A) (ts : Kinds) (rs : Roles) → Before j → IsSomeList all → AreAll Is all
@@ -260,7 +260,7 @@ constants_trace x W us qs cs b ts rs some are g h =
     (comma_trace x.name (λ y q. W (with_commas constant_text cs y) (between another constant_roles cs q)) b (closed ∷ ts) (another ∷ rs)
     (λ j. ((tt, tt), h)))
 
--- the words among these are known
+-- the words among these are known names
 abbrev IsKnownSpec : Names → Spec → Type 0
 IsKnownSpec names (Plain w) = IsKnown names w
 IsKnownSpec names other = Unit {0}
@@ -276,7 +276,7 @@ specs_known names (MoreSpecs (Plain w) others) k = (k.0, specs_known names other
 specs_known names (MoreSpecs (StructBody tag members) others) k = (tt, specs_known names others k.1)
 specs_known names (MoreSpecs (EnumBody tag constants b) others) k = (tt, specs_known names others k.1)
 
--- it has a body
+-- the specifier has a body
 abbrev IsBody : Spec → Type 0
 IsBody (StructBody tag members) = Unit {0}
 IsBody (EnumBody tag constants b) = Unit {0}
@@ -286,7 +286,7 @@ abbrev HasSomeBody : Specs → Type 0
 HasSomeBody NoSpec = ⊥
 HasSomeBody (MoreSpecs first others) = IsBody first ⊎ HasSomeBody others
 
--- another body may stand in place of one
+-- another body is allowed in place of one
 abbrev TakesBodies : World → Names → Spec → Kinds → Roles → Type 0
 TakesBodies W names first us qs =
     (other : Spec) → IsBody other → ((rest : Specs) → words_of (MoreSpecs other rest) ≡ words_of (MoreSpecs first rest)) → HasBody names other
@@ -303,7 +303,7 @@ same_after (StructBody tag members) a b e = ap (λ ws. word.Struct [] ∷ ws) e
 same_after (EnumBody tag constants last) a b e = ap (λ ws. word.Enum [] ∷ ws) e
 
 mutual
-  -- the members of a structure, whatever stands last
+  -- the members of a structure, whatever comes before
   members_trace : (x : NewName) (W : World) (us : Kinds) (qs : Roles) (j : Joint) (m : Members) (ts : Kinds) (rs : Roles) → AreMembers x.names m
       → ((others : Members) → AreMembers x.names others → W (members_text others us) (members_roles others qs))
       → ((i : Joint) → Trace x.name (λ y q. W (members_text m y) (members_roles m q)) i ts rs)
@@ -372,7 +372,7 @@ mutual
     ),
   )
 
-  -- further words before declarators
+  -- more specifiers
   further_specs : (x : NewName) (W : World) (us : Kinds) (qs : Roles) (specs : Specs) (ts : Kinds) (rs : Roles) → AreKnownSpecs x.names specs
       → HaveBodies x.names specs → TakesSpecs W x.names specs us qs → Trace x.name (λ y q. W (specs_text specs y) (specs_roles specs q)) Open ts rs
       → Trace x.name W Open (specs_text specs ts) (specs_roles specs rs)
@@ -383,7 +383,7 @@ mutual
       (further_specs x (λ y q. W (spec_text first y) (spec_roles first q)) us qs others ts rs k.1 have.1
       (λ others' some same all. g (MoreSpecs first others') (inr some) (same_after first others' others same) (have.0, all)) h)
 
-  -- what stands before declarators, whatever stands before it
+  -- specifiers, whatever precedes them
   pub specs_trace : (x : NewName) (W : World) (us : Kinds) (qs : Roles) (j : Joint) (specs : Specs) (ts : Kinds) (rs : Roles)
       → IsTrue (is_type x.names (words_of specs)) → HaveBodies x.names specs → TakesSpecs W x.names specs us qs
       → Trace x.name (λ y q. W (specs_text specs y) (specs_roles specs q)) Open ts rs → Trace x.name W j (specs_text specs ts) (specs_roles specs rs)
@@ -446,7 +446,7 @@ declared_trace x W us qs j d ts rs clear is g h =
     (first_value_trace x (λ y q. W (declarator_text d.declarator y) (declarator_roles d.declarator q)) us qs d.initial ts rs is.initial
     (λ i all. g (record { declarator = d.declarator; initial = i }) (record { declarator = is.declarator; initial = all }) tt) h)
 
--- a parameter that isn't `void` alone
+-- a parameter that isn't only `void`
 abbrev IsTelling : Parameter → Type 0
 IsTelling p = p ≡ lone_void → ⊥
 
@@ -464,7 +464,7 @@ bounds_tell : (specs : Specs) (ps : List PointerWord) (m : Option (List ℕ)) (b
     → IsTelling (record { specs = specs; pointers = ps; name = m; bounds = bs })
 bounds_tell specs ps m bs some e = subst IsSomeList (ap (λ (p : Parameter). p.bounds) e) some
 
--- what stands after the words of a parameter
+-- what follows the specifiers of a parameter
 parameter_after : (x : NewName) (W : World) (us : Kinds) (qs : Roles) (specs : Specs) (ps : List PointerWord) (name : Option (List ℕ))
     (bs : List (Option Written)) (ts : Kinds) (rs : Roles) → IsParameter x.names (record { specs = specs; pointers = ps; name = name; bounds = bs })
     → ((other : Parameter) → IsParameter x.names other → IsTelling other → W (parameter_text other us) (parameter_roles other qs))
@@ -510,7 +510,7 @@ parameter_trace x W us qs j p ts rs any is g h =
     (body_yields specs p.pointers p.name p.bounds some))
     (parameter_after x W us qs p.specs p.pointers p.name p.bounds ts rs is g h)
 
--- parameters of which one decides are none
+-- a list with such a parameter isn't only `void`
 telling_list : (ps : List Parameter) → OneIs IsTelling ps → ps ≢ lone_void ∷ []
 telling_list ps some e = elim (subst (OneIs IsTelling) e some) [ inl t ↦ t refl | inr n ↦ n ]
 

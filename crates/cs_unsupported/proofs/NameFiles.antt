@@ -46,7 +46,7 @@ opened = token.Punctuator punctuator.OpenBrace
 abbrev closed : TokenKind
 closed = token.Punctuator punctuator.CloseBrace
 
--- a part of a file
+-- an external declaration
 external_trace : (x : NewName) (W : World) (us : Kinds) (qs : Roles) (j : Joint) (e : External) (ts : Kinds) (rs : Roles) → IsExternal x.names e
     → ((other : External) → IsExternal x.names other → W (external_text other us) (external_roles other qs))
     → Trace x.name (λ y q. W (external_text e y) (external_roles e q)) Open ts rs → Trace x.name W j (external_text e ts) (external_roles e rs)
@@ -88,7 +88,7 @@ external_trace x W us qs j (Definition specs head body) ts rs is g h =
           (λ i. ((tt, tt), h)),
     ))
 
--- what is known of the token after some others: where others may stand in its place and after it, they may in the file
+-- what is known about the token after some others: if other tokens are allowed there, they are allowed in the file
 record Here (new : List ℕ) (W : World) (j : Joint) (front : Kinds) (next : TokenKind) (rs : Roles) : Type 1 where
   V : World
   role : Role
@@ -145,7 +145,7 @@ free_if names m new false free other =
     false_from_ne_true (is_among (names ++ m ∷ []) new) (λ e.
     elim (among_more names m new e) [ inl a ↦ false≢true (sym free ∙ a) | inr s ↦ other s ])
 
--- a name that no declarator has
+-- a name that is that of no declarator
 free_each : (names : Names) (new : List ℕ) (ds : List Declarator) (y : Kinds) → is_among names new ≡ false
     → IsNew new (each_after_comma declarator_text ds y) → is_among (with_names names ds) new ≡ false
 free_each names new [] y free n = free
@@ -160,7 +160,7 @@ free_list : (names : Names) (new : List ℕ) (ds : List Declarator) (y : Kinds) 
 free_list names new [] y free n = free
 free_list names new (d ∷ ds) y free n = free_each names new (d ∷ ds) y free ((λ e. cc), n)
 
--- the name stays free after a part of a file where it is new
+-- a name stays free after an external declaration in which it is new
 free_after : (names : Names) (new : List ℕ) (e : External) → is_among names new ≡ false → IsNew new (external_text e [])
     → is_among (names_after names e) new ≡ false
 free_after names new (Typedef specs ds) free n =
@@ -175,7 +175,7 @@ no_first : (front : Kinds) (next : TokenKind) (rest : Kinds) → [] ≡ front ++
 no_first [] next rest e = cc
 no_first (k ∷ front) next rest e = cc
 
--- the token stands in a later part of the file
+-- the token is in a later external declaration
 later : (names : Names) (new : List ℕ) (W : World) (j : Joint) (e : External) (es : List External) (front d : Kinds) (next : TokenKind) → IsExternal names e
     → front ≡ external_text e [] ++ d
     → Here new (λ y q. W (external_text e y) (external_roles e q)) (ending (external_text e []) j) d next (file_roles es)
@@ -231,14 +231,14 @@ at : (new : List ℕ) (f : List External) (front : Kinds) (next : TokenKind) (re
     → file_text f ≡ front ++ next ∷ rest → Here new IsFileOf Open front next (file_roles f)
 at new f front next rest is n spelled = found [] new IsFileOf Open f front next rest is refl n (λ other are. (other, are, refl, refl)) spelled
 
--- a file goes on so
+-- a file continues with the token
 goes_on : (new : List ℕ) (front : Kinds) (next : TokenKind) (rs : Roles) (h : Here new IsFileOf Open front next rs) (k : TokenKind) → Goes h.V k
     → BeginsFile (front ++ k ∷ [])
 goes_on new front next rs h k v =
     let f = (h.following (k ∷ v.0) v.1 v.2).1 in
     record { file = f.0; more = v.0; is_file = f.1; spelled = f.2 ∙ sym (append_assoc front (k ∷ []) v.0) }
 
--- a declarator's name stands there in some file
+-- a declarator's name is next in some file
 declares : (new : List ℕ) (front : Kinds) (next : TokenKind) (rs : Roles) (h : Here new IsFileOf Open front next rs) → Declares h.V
     → MayHave front declared_name
 declares new front next rs h v =
@@ -255,7 +255,7 @@ declares new front next rs h v =
           ∙ ap (λ (rs : Roles). slice_get rs 0) b.2;
     }
 
--- what is known where some file has a declarator's name
+-- what is known if some file has a declarator's name next
 record Named (front : Kinds) (new : List ℕ) : Type 0 where
   clear : is_barred (ending front Open) ≡ false
   pointed : BeginsFile (front ++ star ∷ [])
@@ -283,7 +283,7 @@ named_by_role new front (next ∷ rest) f is n spelled there =
 is_named : (new : List ℕ) (front : Kinds) → IsNew new front → MayHave front declared_name → Named front new
 is_named new front n m = named_by_role new front m.more m.file m.is_file n m.spelled m.there
 
--- the new name goes on, and isn't another than a declarator's
+-- the new name continues, and then it is a declarator's
 by_name : (new : List ℕ) (front : Kinds) → IsNew new front → (BeginsFile (front ++ opening ∷ []) → ⊥) → ending front Open ≡ Open
     → BeginsFile (front ++ token.Name new ∷ []) → MayHave front declared_name
 by_name new front n none last b =
@@ -294,7 +294,7 @@ by_name new front n none last b =
       | inr opens ↦ absurd (none (goes_on new front (token.Name new) (file_roles b.file) h opening opens))
     ]
 
--- a star goes on after a comma
+-- a star continues after a comma
 by_star : (new : List ℕ) (front : Kinds) → IsNew new front → (BeginsFile (front ++ opening ∷ []) → ⊥) → ending front Open ≡ Listed
     → BeginsFile (front ++ star ∷ []) → MayHave front declared_name
 by_star new front n none last b =
@@ -305,7 +305,7 @@ by_star new front n none last b =
       | inr name ↦ declares new front star (file_roles b.file) h name
     ]
 
--- where no parenthesis goes on, this token decides
+-- if no parenthesis continues, this token decides
 pub asked_new : (new : List ℕ) (front : Kinds) → IsNew new front → ending front Open ≡ Open → (BeginsFile (front ++ opening ∷ []) → ⊥)
     → IsAskedFor front (Some (token.Name new))
 asked_new new front n last none = (λ m. (is_named new front n m).named, by_name new front n none last)

@@ -46,7 +46,7 @@ closed = token.Punctuator punctuator.CloseBrace
 abbrev word : Keyword → TokenKind
 word k = token.Keyword k
 
--- an expression, if it is there
+-- an expression, if there is one
 some_trace : (x : NewName) (W : World) (us : Kinds) (qs : Roles) (level : ℕ) (e : Option Written) (ts : Kinds) (rs : Roles)
     → MatchOption e (Unit {0}) (IsPhrase x.names level)
     → ((other : Option Written) → MatchOption other (Unit {0}) (IsPhrase x.names level) → W (some_text other us) (some_roles other qs))
@@ -71,7 +71,7 @@ plain_type (MoreSpecs Static others) P h = absurd h
 plain_type (MoreSpecs (StructBody tag members) others) P h = absurd h
 plain_type (MoreSpecs (EnumBody tag constants b) others) P h = absurd h
 
--- further words of a type in a block
+-- more words of a type in a block
 further_words : (x : NewName) (W : World) (specs : Specs) (ts : Kinds) (rs : Roles) → ArePlain specs → AreKnownSpecs x.names specs
     → Trace x.name (λ y q. W (specs_text specs y) (specs_roles specs q)) Open ts rs → Trace x.name W Open (specs_text specs ts) (specs_roles specs rs)
 further_words x W NoSpec ts rs p k h = h
@@ -82,7 +82,7 @@ further_words x W (MoreSpecs Static others) ts rs p k h = absurd p
 further_words x W (MoreSpecs (StructBody tag members) others) ts rs p k h = absurd p
 further_words x W (MoreSpecs (EnumBody tag constants b) others) ts rs p k h = absurd p
 
--- the words of a type in a block, whatever stands before them
+-- the words of a type in a block, whatever precedes them
 first_words : (x : NewName) (W : World) (j : Joint) (specs : Specs) (ts : Kinds) (rs : Roles) → IsTrue (is_type x.names (words_of specs)) → ArePlain specs
     → AreKnownSpecs x.names specs → Trace x.name (λ y q. W (specs_text specs y) (specs_roles specs q)) Open ts rs
     → Trace x.name W j (specs_text specs ts) (specs_roles specs rs)
@@ -127,7 +127,7 @@ first_trace x W us qs (FirstRuns e) ts rs is g h =
 first_trace x W us qs (FirstDeclares specs objects) ts rs is g h =
     local_trace x W us qs Open specs objects ts rs is.0 is.1 (λ ds all. g (FirstDeclares specs ds) (is.0, all)) h
 
--- each statement may stand before these tokens
+-- each statement may come before these tokens
 abbrev TakesSentences : World → Names → Kinds → Roles → Type 0
 TakesSentences W names us qs = (i : Sentence) → IsSentence names i → W (sentence_text i us) (sentence_roles i qs)
 
@@ -253,7 +253,7 @@ mutual
       local_trace x W us qs j specs objects ts rs is.0 is.1 (λ ds all. g (Declares specs ds) (is.0, all)) h
   item_trace x W us qs j (Does statement) ts rs is g h = sentence_trace x W us qs j statement ts rs is (λ i' w. g (Does i') w) h
 
-  -- what stands in a block, whatever stands before it
+  -- items of a block, whatever precedes them
   pub items_trace : (x : NewName) (W : World) (us : Kinds) (qs : Roles) (j : Joint) (items : Items) (ts : Kinds) (rs : Roles) → AreItems x.names items
       → ((others : Items) → AreItems x.names others → W (items_text others us) (items_roles others qs))
       → ((i : Joint) → Trace x.name (λ y q. W (items_text items y) (items_roles items q)) i ts rs)

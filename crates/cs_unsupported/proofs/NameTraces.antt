@@ -1,5 +1,5 @@
--- The tokens of expressions with their roles: none is a declarator's name, and where a new name might be, an opening parenthesis
--- might be, too. For the contract of `token_for_name`.
+-- The tokens of expressions with their roles: none is a declarator's name, and where a new name is allowed, so is an opening
+-- parenthesis. For the contract of `token_for_name`.
 use Rattle.std.proofs.Common.{◌≡◌, ℕ, suc, ◌≤◌, ◌⊎◌, inl, inr, Bool, true, false, IsTrue, List, [], ◌∷◌, refl, sym, ap, ◌∙◌}
 use Rattle.std.proofs.Common.{arith}
 use Rattle.std.specs.List.{list_all}
@@ -38,15 +38,15 @@ opening = token.Punctuator punctuator.OpenParenthesis
 abbrev pub star : TokenKind
 star = token.Punctuator punctuator.Star
 
--- what some tokens with their roles are, as those of a file after others
+-- a condition on tokens with their roles, as that they are the rest of a file after others
 abbrev pub World : Type 1
 World = Kinds → Roles → Type 0
 
--- a token goes on
+-- a token continues
 abbrev pub Goes : World → TokenKind → Type 0
 Goes W next = (more : Kinds) × (others : Roles) × W (next ∷ more) others
 
--- a declarator's name does
+-- a declarator's name continues
 abbrev pub Declares : World → Type 0
 Declares W = (name : List ℕ) × (more : Kinds) × (others : Roles) × W (token.Name name ∷ more) (declared_name ∷ others)
 
@@ -62,13 +62,13 @@ abbrev pub is_name : Role → Bool
 is_name declared_name = true
 is_name other = false
 
--- a declarator's name stands where none is barred, and there pointers might stand, and the new name
+-- a declarator's name comes only where none is barred, and pointers or the new name are allowed in its place
 abbrev pub NameReported : List ℕ → World → Joint → Role → Type 0
 NameReported new W joint declared_name = (is_barred joint ≡ false) × Goes W star × Goes W (token.Name new)
 NameReported new W joint other = Unit {0}
 
--- where the new name stands and might be distinguished from others, it is a declarator's, or an opening parenthesis might stand there; where
--- a star stands after a comma, that might, or a declarator's name
+-- if the new name comes where it can be distinguished from others, it is a declarator's, or an opening parenthesis is allowed in its place; if
+-- a star follows a comma, either that is allowed in its place, or a declarator's name
 abbrev pub NextReported : List ℕ → World → TokenKind → Joint → Role → Type 0
 NextReported new W (token.Name name) Open role = name ≡ new → (role ≡ declared_name) ⊎ Goes W opening
 NextReported new W (token.Punctuator punctuator.Star) Listed role = Goes W opening ⊎ Declares W
@@ -77,7 +77,7 @@ NextReported new W next joint role = Unit {0}
 abbrev pub Reported : List ℕ → World → Joint → TokenKind → Role → Type 0
 Reported new W joint next role = NameReported new W joint role × NextReported new W next joint role
 
--- the same of each of some tokens
+-- the same for each of some tokens
 abbrev pub Trace : List ℕ → World → Joint → Kinds → Roles → Type 0
 Trace new W joint [] roles = Unit {0}
 Trace new W joint (next ∷ tokens) [] = ⊥
@@ -90,12 +90,12 @@ pub record NewName : Type 0 where
   pub name : List ℕ
   pub free : is_among names name ≡ false
 
--- no declarator's name
+-- not a declarator's name
 pub unnamed : (new : List ℕ) (W : World) (j : Joint) (r : Role) → is_name r ≡ false → NameReported new W j r
 unnamed new W j declared_name e = absurd (false≢true (sym e))
 unnamed new W j _ e = tt
 
--- where a parenthesis might stand
+-- where a parenthesis is allowed
 pub by_opening : (new : List ℕ) (W : World) (k : TokenKind) (j : Joint) (r : Role) → Goes W opening → NextReported new W k j r
 by_opening new W (token.Name m) Open r g = λ e. inr g
 by_opening new W (token.Name m) Barred r g = tt
@@ -173,7 +173,7 @@ word_trace x r e W j (word.Struct m) ts rs k h =
 word_trace x r e W j (word.Enum m) ts rs k h =
     ((unnamed x.name W j r e, tt), ((unnamed x.name (λ y q. W (token.Keyword keyword.Enum ∷ y) (r ∷ q)) Barred r e, tt), h))
 
--- pointers after which no declarator's name stands
+-- pointers, after which no declarator's name follows
 pub pointers_trace : (new : List ℕ) (r : Role) → is_name r ≡ false
     → (W : World) (ps : List PointerWord) (ts : Kinds) (rs : Roles) → Trace new (λ y q. W (pointers_text ps y) (each r (pointers_text ps []) q)) Open ts rs
     → Trace new W Open (pointers_text ps ts) (each r (pointers_text ps []) rs)
@@ -218,7 +218,7 @@ bracketed = token.Punctuator punctuator.CloseBracket
 abbrev sizeof : TokenKind
 sizeof = token.Keyword keyword.Sizeof
 
--- each expression of the level may stand before these tokens
+-- each expression of the level may come before these tokens
 abbrev pub TakesPhrases : World → Names → ℕ → Kinds → Roles → Type 0
 TakesPhrases W names level us qs = (e : Written) → level ≤ level_of e → IsWell names e → W (text e us) (roles e qs)
 

@@ -1,4 +1,4 @@
--- A name that is none of some tokens, and what the last token implies: for the contracts of `last_joint` and `new_name`.
+-- A name that isn't among some tokens, and what the last token implies: for the contracts of `last_joint` and `new_name`.
 use Rattle.std.proofs.Common.{◌≡◌, ◌∙◌, sym, ℕ, suc, ◌+◌, ◌-◌, ◌<◌, ◌≤◌, max, List, [], ◌∷◌, Some, length, replicate}
 use Rattle.std.proofs.Common.{slice_get, get_or, drop, drop-cons, add-one, ap, subst, arith}
 use Rattle.std.proofs.lemmas.List.{length-replicate}
@@ -16,7 +16,7 @@ use Rattle.cs_unsupported.specs.Declarators.{joint_after, ending, IsNew, IsNameW
 pub max_is : (a b : ℕ) → ord_max nat_cmp a b ≡ max a b
 max_is a b = grind (arith, common_steps)
 
--- the last token says
+-- what the last token implies
 pub ending_last : (tokens : List Token) (t : Token) (j : Joint) → slice_get tokens (length tokens - 1) ≡ Some t
     → ending (kinds tokens) j ≡ joint_after t.kind
 ending_last [] t j e = absurd cc
@@ -59,7 +59,7 @@ pub kinds_within : (less most : ℕ) (ks : Kinds) → less ≤ most → AreNames
 kinds_within less most [] l within = tt
 kinds_within less most (k ∷ ks) l within = (kind_within less most k l within.0, kinds_within less most ks l within.1)
 
--- one more of the tokens that are left
+-- one more of the remaining tokens
 pub item_within : (most i : ℕ) (tokens : List Token) (t : Token) → i < length tokens → t ≡ get_or tokens i t → IsNameWithin most t.kind
     → AreNamesWithin most (kinds (drop (i + 1) tokens)) → AreNamesWithin most (kinds (drop i tokens))
 item_within most i tokens t within read first others =
@@ -67,7 +67,7 @@ item_within most i tokens t within read first others =
     ∙ ap (λ (j : ℕ). t ∷ drop j tokens) (sym (add-one i)) in
     subst (λ (x : List Token). AreNamesWithin most (kinds x)) (sym there) (first, others)
 
--- the lengths of the names among the tokens together
+-- the sum of the lengths of the names among the tokens
 abbrev limit : Kinds → ℕ
 limit [] = 0
 limit (token.Name name ∷ ks) = length name + limit ks

@@ -23,7 +23,7 @@ use Rattle.cs_unsupported.specs.declared.members.Phase.TheVariants.{Outside}
 use Rattle.cs_unsupported.specs.declared.members.Last.TheVariants as last
 use Rattle.cs_unsupported.proofs.Traces.{Trace, spot, Calm, word_calm, expression_calm, some_calm, list_calm, declared_calm}
 
--- no word is `static` or has a body
+-- no specifier is `static` or has a body
 abbrev pub ArePlain : Specs → Type 0
 ArePlain NoSpec = Unit {0}
 ArePlain (MoreSpecs (Plain w) others) = ArePlain others
@@ -49,7 +49,7 @@ plain_calm W s (MoreSpecs Static others) ts rs p h = absurd p
 plain_calm W s (MoreSpecs (StructBody tag members) others) ts rs p h = absurd p
 plain_calm W s (MoreSpecs (EnumBody tag constants comma) others) ts rs p h = absurd p
 
--- the same where the last token is no word of a tag
+-- the same if the last token isn't a word of a tag
 abbrev pub Quiet : (Kinds → Type 0) → List Phase → Kinds → Roles → Type 0
 Quiet W s ts rs = Trace W (spot Outside last.Other s) ts rs
 

@@ -16,7 +16,7 @@ use Rattle.cs_unsupported.specs.declared.inside.Tagging.{Tagging}
 use Rattle.cs_unsupported.specs.declared.inside.Tagging.TheVariants as tagging
 use Rattle.cs_unsupported.specs.Sites.{Site, the_first, tag_after, tagging_after, closed, with_question, with_colon, punctuator_step, step, run, is_tagging}
 
--- the last of the tokens are those of a tag
+-- the last tokens are those of a tag
 abbrev Last : Kinds → Tagging → Type 0
 Last front tagging.Struct = (before : Kinds) × (front ≡ before ++ token.Keyword keyword.Struct ∷ [])
 Last front tagging.Enum = (before : Kinds) × (front ≡ before ++ token.Keyword keyword.Enum ∷ [])

@@ -1,4 +1,4 @@
--- The tokens of a file with their roles, from one spot to another: what is outside of members. For the contract of
+-- The tokens of a file with their roles, from one spot to another, outside of members. For the contract of
 -- `is_after_member`.
 use Rattle.std.proofs.Common.{◌≡◌, Bool, true, false, List, [], ◌∷◌, Option, Some, None, refl}
 use Rattle.std.proofs.lemmas.Bool.{false≢true}
@@ -37,19 +37,19 @@ use Rattle.cs_unsupported.specs.declared.members.Last.{Last}
 use Rattle.cs_unsupported.specs.declared.members.Last.TheVariants as last
 use Rattle.cs_unsupported.specs.Spots.{Spot, name_after, punctuator_step, step, is_declared}
 
--- the role is that of what stands after a member's declarator
+-- the role is that of what follows a member's declarator
 abbrev pub is_member : Role → Bool
 is_member after_member = true
 is_member other = false
 
--- after a member's declarator a semicolon may stand, which has that role; elsewhere no token has it. What may stand there goes on
--- with tokens that W allows
+-- after a member's declarator a semicolon is allowed, and has that role; no token has it elsewhere. What is allowed continues with
+-- tokens that W allows
 abbrev pub Reported : (Kinds → Type 0) → Phase → TokenKind → Role → Type 0
 Reported W Declared next role = ((more : Kinds) × W (token.Punctuator punctuator.Semicolon ∷ more))
     × (next ≡ token.Punctuator punctuator.Semicolon → is_member role ≡ true)
 Reported W phase next role = is_member role ≡ false
 
--- the same of each of some tokens, from this spot on
+-- the same for each of some tokens, from this spot on
 abbrev pub Trace : (Kinds → Type 0) → Spot → Kinds → Roles → Type 0
 Trace W s [] [] = is_declared s.phase ≡ false
 Trace W s [] (role ∷ roles) = ⊥
@@ -63,7 +63,7 @@ spot phase following around = record { phase = phase; following = following; aro
 abbrev pub Calm : (Kinds → Type 0) → List Phase → Kinds → Roles → Type 0
 Calm W around tokens roles = (following : Last) → Trace W (spot Outside following around) tokens roles
 
--- the punctuator is no bracket
+-- the punctuator isn't a bracket
 abbrev pub is_plain : Punctuator → Bool
 is_plain punctuator.OpenBrace = false
 is_plain punctuator.OpenParenthesis = false
@@ -285,7 +285,7 @@ pub comma_calm : (W : Kinds → Type 0) (s : List Phase) (comma : Bool) (ts : Ki
 comma_calm W s false ts rs h = h
 comma_calm W s true ts rs h = λ b. (refl, h last.Other)
 
--- what some part of a list is outside of members
+-- the parts of a list, outside of members
 abbrev pub Calms : {A : Type 0} → (A → Kinds → Kinds) → (A → Roles → Roles) → Type 1
 Calms {A} g f = (W : Kinds → Type 0) (s : List Phase) (a : A) (ts : Kinds) (rs : Roles) → Calm (λ y. W (g a y)) s ts rs → Calm W s (g a ts) (f a rs)
 

@@ -42,7 +42,7 @@ word k x = token.Keyword k ∷ x
 abbrev set : Punctuator → Kinds → Kinds
 set m x = token.Punctuator m ∷ x
 
--- an expression, if it is there, is well made
+-- an expression, if there is one, is well formed
 abbrev SomeWell : Names → Option Written → Type 0
 SomeWell names e = MatchOption e (Unit {0}) (IsWell names)
 
@@ -86,7 +86,7 @@ brackets_calm names E h s (e ∷ bs) ts rs are t =
           (λ c p. (refl, brackets_calm names E h s bs ts rs are.1 t following.Other refl)),
     )
 
--- parts of a list, which are made so
+-- the parts of a list, which satisfy a condition
 abbrev Calms : {A : Type 0} → Names → (Roles → Type 0) → (A → Type 0) → (A → Kinds → Kinds) → (A → Roles → Roles) → Type 0
 Calms {A} names E Is g f = (h : Bool) (s : List Bool) (a : A) (ts : Kinds) (rs : Roles) → Is a → Calm names E h s ts rs
     → Calm names E h s (g a ts) (f a rs)
@@ -177,7 +177,7 @@ mutual
             ))),
       )
 
-  -- what stands before declarators
+  -- specifiers
   specs_calm : (names : Names) (E : Roles → Type 0) (h : Bool) (s : List Bool) (specs : Specs) (ts : Kinds) (rs : Roles) → HaveBodies names specs
       → Calm names E h s ts rs → Calm names E h s (specs_text specs ts) (specs_roles specs rs)
   specs_calm names E h s NoSpec ts rs have t = t
@@ -194,7 +194,7 @@ mutual
       (set punctuator.Semicolon (members_text m ts)) (after_member ∷ members_roles m rs) are.3
       (λ b o. (refl, members_calm names E h s m ts rs are.4 t following.Other refl)))
 
--- no word has a body
+-- no specifier has a body
 plain_bodies : (names : Names) (specs : Specs) → ArePlain specs → HaveBodies names specs
 plain_bodies names NoSpec are = tt
 plain_bodies names (MoreSpecs (Plain w) others) are = (tt, plain_bodies names others are)
@@ -397,7 +397,7 @@ closing_role : (r : Role) → is_closing r ≡ true → r ≡ closes_type
 closing_role closes_type e = refl
 closing_role _ e = absurd (false≢true e)
 
--- where the last of some tokens closes a type it has that role
+-- if the last of some tokens closes a type, it has that role
 last_closes : (names : Names) (E : Roles → Type 0) (s : Parens) (last : Bool) (front more : Kinds) (rs : Roles) (count : ℕ) → length front ≡ suc count
     → Trace names E s (front ++ more) rs → run names front s last ≡ true → slice_get rs count ≡ Some closes_type
 last_closes names E s last [] more rs count n t e = absurd (omega (arith, n))
@@ -408,7 +408,7 @@ last_closes names E s last (k ∷ j ∷ front) more (r ∷ rs) zero n t e = absu
 last_closes names E s last (k ∷ j ∷ front) more (r ∷ rs) (suc count) n t e =
     last_closes names E (step names k s) (closes k s.holds) (j ∷ front) more rs count (omega (arith, n)) t.1 e
 
--- and it closes one where it has
+-- and it closes one if it has that role
 has_closed : (names : Names) (E : Roles → Type 0) (s : Parens) (last : Bool) (front more : Kinds) (rs : Roles) (count : ℕ) → length front ≡ suc count
     → Trace names E s (front ++ more) rs → slice_get rs count ≡ Some closes_type → run names front s last ≡ true
 has_closed names E s last [] more rs count n t e = absurd (omega (arith, n))
@@ -437,7 +437,7 @@ last_role names E s (k ∷ front) more rs t e = record {
   there = last_closes names E s false (k ∷ front) more rs (length front) refl t e;
 }
 
--- it is decidable whether the last of some tokens of a part closes a type, whatever the roles after that part are
+-- the scan of the first tokens of an external declaration decides whether the last of them closes a type, whatever the roles after it are
 pub yields_type : (names : Names) (part : Kinds) (whole : External) (rest : Roles) (more : Kinds) → IsExternal names whole
     → external_text whole [] ≡ part ++ more
     → IsTrue (run names part the_outside false) ↔ IsLastRole (external_roles whole rest) (length part) closes_type
@@ -453,7 +453,7 @@ after_all names E s [] rs t = t
 after_all names E s (k ∷ ts) [] t = absurd t
 after_all names E s (k ∷ ts) (r ∷ rs) t = after_all names E (step names k s) ts rs t.1
 
--- the roles after those of a part of a file
+-- the roles after those of an external declaration
 pub roles_after : (names : Names) (e : External) (rest : Roles) → IsExternal names e → drop (length (external_text e [])) (external_roles e rest) ≡ rest
 roles_after names e rest is = after_all names (λ rs. rs ≡ rest) the_outside (external_text e []) (external_roles e rest)
     (external_quiet names (λ rs. rs ≡ rest) false [] e [] rest is refl)

@@ -37,7 +37,7 @@ abbrev pub is_closing : Role → Bool
 is_closing closes_type = true
 is_closing other = false
 
--- each of some tokens has this role exactly where it closes a type, and the roles after theirs are as given
+-- each of some tokens has this role exactly if it closes a type, and the roles after theirs are as given
 abbrev pub Trace : Names → (Roles → Type 0) → Parens → Kinds → Roles → Type 0
 Trace names E s [] roles = E roles
 Trace names E s (next ∷ tokens) [] = ⊥
@@ -50,19 +50,19 @@ abbrev pub is_opening : Following → Bool
 is_opening Opening = true
 is_opening _ = false
 
--- the same where no type may begin with the next token
+-- the same if no type may begin with the next token
 abbrev pub Calm : Names → (Roles → Type 0) → Bool → List Bool → Kinds → Roles → Type 0
 Calm names E h s tokens roles = (b : Following) → is_opening b ≡ false → Trace names E (parens b h s) tokens roles
 
--- the same whatever stands last
+-- the same whatever the last token is
 abbrev Ever : Names → (Roles → Type 0) → Bool → List Bool → Kinds → Roles → Type 0
 Ever names E h s tokens roles = (b : Following) → Trace names E (parens b h s) tokens roles
 
--- the same where it is nothing that matters
+-- the same if the last token doesn't matter
 abbrev pub Quiet : Names → (Roles → Type 0) → Bool → List Bool → Kinds → Roles → Type 0
 Quiet names E h s tokens roles = Trace names E (parens Other h s) tokens roles
 
--- an expression may begin after it
+-- a parenthesis after it may hold a type
 abbrev is_apart : Following → Bool
 is_apart Name = false
 is_apart For = false
@@ -88,7 +88,7 @@ kept_by Name begins h e = refl
 kept_by For begins h e = refl
 kept_by Other begins h e = refl
 
--- or none may
+-- or none may begin there
 kept_there : (b : Following) (begins h : Bool) → is_opening b ≡ false → begun b begins h ≡ h
 kept_there Opening begins h e = absurd (false≢true (sym e))
 kept_there Name begins h e = refl
@@ -109,7 +109,7 @@ by_opening : (names : Names) (E : Roles → Type 0) (b : Following) (h : Bool) (
     → Trace names E (parens Opening h s) ts rs → Trace names E (parens (opening b) h s) ts rs
 by_opening names E b h s ts rs e t = subst (λ (x : Following). Trace names E (parens x h s) ts rs) (sym (apart_opens b e)) t
 
--- the punctuator is no parenthesis
+-- the punctuator isn't a parenthesis
 abbrev is_plain : Punctuator → Bool
 is_plain punctuator.OpenParenthesis = false
 is_plain punctuator.CloseParenthesis = false
@@ -170,7 +170,7 @@ word_calm names E r e h s (word.Struct n) ts rs t =
 word_calm names E r e h s (word.Enum n) ts rs t =
     λ b o. (e, there_word names E b Other true h s (token.Name n ∷ ts) (r ∷ rs) o (e, t Name refl))
 
--- further words and pointers of a type between parentheses
+-- more words and pointers of a type between parentheses
 words_calm : (names : Names) (E : Roles → Type 0) (h : Bool) (s : List Bool) (ws : List TypeWord) (ps : List PointerWord) (ts : Kinds) (rs : Roles)
     → Calm names E h s ts rs → Calm names E h s (words_text ws (pointers_text ps ts)) (type_roles ws ps rs)
 words_calm names E h s [] ps ts rs t = pointers_calm names E in_expression refl h s ps ts rs t
@@ -204,7 +204,7 @@ pub among_alone : (names : Names) (n : List ℕ) (ws : List TypeWord) → IsTrue
 among_alone names n [] is = is
 among_alone names n (w ∷ ws) is = absurd (false≢true is)
 
--- a typedef name that stands first in a type is one
+-- a typedef name at the beginning of a type is one of the names
 first_among : (names : Names) (n : List ℕ) (ws : List TypeWord) → IsTrue (is_type names (word.Typedef n ∷ ws)) → is_among names n ≡ true
 first_among names n ws is = among_alone names n (named_by ws) is
 
@@ -221,7 +221,7 @@ integer_opens names E Long s ts rs t = (refl, t)
 integer_opens names E Signed s ts rs t = (refl, t)
 integer_opens names E Unsigned s ts rs t = (refl, t)
 
--- a type after its parenthesis, which holds one from the first word on
+-- a type after its parenthesis, which holds a type from the first word on
 type_opens : (names : Names) (E : Roles → Type 0) (s : List Bool) (ws : List TypeWord) (ps : List PointerWord) (ts : Kinds) (rs : Roles)
     → IsTrue (is_type names ws) → Calm names E true s ts rs
     → Trace names E (parens Opening false s) (words_text ws (pointers_text ps ts)) (type_roles ws ps rs)

@@ -1,4 +1,4 @@
--- The limit and the part that are left: the measure of the parts; and what their loops keep.
+-- The remaining limit and the part: the measure of the parts; and the invariants of their loops.
 use Rattle.std.proofs.Common.{◌≤◌, ◌+◌, ◌-◌, ◌*◌, length}
 use Rattle.cs_decl_parser.proofs.BlockSites.{ItemsSoFar, SwitchSoFar}
 use Rattle.cs_decl_parser.proofs.PlacingStatements.{ItemsPlaced, SwitchPlaced}

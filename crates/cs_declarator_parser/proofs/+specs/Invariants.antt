@@ -1,4 +1,4 @@
--- The limit and the part that are left: the measure of the parts; and what their loops keep.
+-- The remaining limit and the part: the measure of the parts; and the invariants of their loops.
 use Rattle.std.proofs.Common.{◌≤◌, ◌<◌, ◌+◌, ◌-◌, ◌*◌, length}
 use Rattle.std.specs.Prelude.{IsTrue}
 use Rattle.cs_expr_parser.specs.Words.{names_some}

@@ -1,4 +1,4 @@
--- The limit and the part that are left: the measure of the parser's parts; and what their loops keep.
+-- The remaining limit and the part: the measure of the parser's parts; and the invariants of their loops.
 use Rattle.std.proofs.Common.{◌≤◌, ◌<◌, ◌+◌, ◌-◌, ◌*◌, length, drop}
 use Rattle.cs_ast.specs.RawView.{written_list}
 use Rattle.cs_grammar.specs.Levels.{COMMA, POSTFIX}

@@ -1,4 +1,4 @@
--- Each return is the refusal of the first token, of the type or of the objects, or all were taken.
+-- Each return is the refusal of the first token, of the specifiers or of the objects, or all were taken.
 use Rattle.std.proofs.Common.{◌≡◌, Err, refl, sym, subst, arith, rules}
 use Rattle.cs_declarator_parser.specs.Answers.{ExactAnswers}
 use Rattle.cs_decl_parser.specs.Blocks.{Locals, local_of}

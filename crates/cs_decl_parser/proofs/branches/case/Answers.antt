@@ -1,4 +1,4 @@
--- Each return is the refusal of the word or of the value, or both were taken.
+-- Each return is the refusal of the keyword or of the value, or both were taken.
 use Rattle.std.proofs.Common.{◌≡◌, Err, refl, sym, subst, arith, rules}
 use Rattle.cs_ast.specs.RawStatementView.{switch_item}
 use Rattle.cs_grammar.specs.FileClasses.{SwitchParts}

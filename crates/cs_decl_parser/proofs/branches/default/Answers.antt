@@ -1,4 +1,4 @@
--- Each return is the refusal of the colon, or the word with it.
+-- Each return is the refusal of the colon, or the keyword with it.
 use Rattle.std.proofs.Common.{refl, sym, ◌∙◌}
 use Rattle.std.proofs.lemmas.Bool.{false≢true}
 use Rattle.cs_decl_parser.proofs.BlockSites.{default_stops, default_taken}

@@ -1,4 +1,4 @@
--- Each return is the refusal of the type or of the name, or a type alone, or what stands after the name.
+-- Each return is the refusal of the specifiers or of the name, or only specifiers, or what follows the name.
 use Rattle.std.proofs.Common.{◌≡◌, Err, refl, sym, ◌∙◌, subst, rules}
 use Rattle.std.proofs.lemmas.Bool.{false≢true}
 use Rattle.cs_ast.specs.RawStatementView.{external_of}

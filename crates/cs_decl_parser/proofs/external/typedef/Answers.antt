@@ -1,4 +1,4 @@
--- Each return is the refusal of the type or of the names, or both were taken.
+-- Each return is the refusal of the specifiers or of the names, or both were taken.
 use Rattle.std.proofs.Common.{◌≡◌, Err, refl, sym, subst, arith, rules}
 use Rattle.cs_ast.specs.RawStatementView.{external_of}
 use Rattle.cs_grammar.specs.DeclarationClasses.{Externals}

@@ -1,4 +1,4 @@
--- With the names that are left, the names are those with all.
+-- Adding the remaining names to the names so far yields the names with all.
 use Rattle.std.proofs.Common.{◌≡◌, map, drop}
 use Rattle.cs_ast.specs.RawDeclarationView.{declarator}
 use Rattle.cs_grammar.specs.FilePhrases.{with_names}

@@ -1,4 +1,4 @@
--- The last token is too deep, or the end of input is refused after it, exactly where a file continues with it.
+-- The last token is too deep, or the end of input after it is refused, exactly if a file continues with it.
 use Rattle.std.proofs.Common.{◌≡◌, List, [], ◌∷◌, ◌++◌, refl, ap, ◌∙◌, subst}
 use Rattle.cs_ast.specs.declared.token.Token.{Token}
 use Rattle.cs_decl_parser.specs.Files.{parts_of, IsTheFile}

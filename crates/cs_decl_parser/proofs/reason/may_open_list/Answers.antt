@@ -1,4 +1,4 @@
--- A list may open where a value is awaited and a file continues with a brace.
+-- A list may open where an initializer is expected and a file continues with a brace.
 use Rattle.std.proofs.Common.{take, sym, ◌∙◌}
 use Rattle.std.proofs.lemmas.Bool.{false≢true}
 use Rattle.cs_expr_parser.specs.Positions.{kinds}

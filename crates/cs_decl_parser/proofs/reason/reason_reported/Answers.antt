@@ -1,4 +1,4 @@
--- The tokens before a colon, `static`, `typedef`, a dot, or an opening bracket, brace or parenthesis say whether it is unsupported.
+-- The tokens before a colon, `static`, `typedef`, a dot, or an opening bracket, brace or parenthesis decide whether it is unsupported.
 use Rattle.std.proofs.Common.{refl, sym, subst, ◌∙◌}
 use Rattle.std.proofs.lemmas.Bool.{false≢true}
 use Rattle.cs_grammar.specs.declared.refusal.Reason.{Reason}

@@ -1,4 +1,4 @@
--- An expression has a token at least, lies inside the tokens and is no higher than the limit, and is what its own parser says.
+-- An expression has at least one token, lies within the tokens and the limit, and is the one that the parser of expressions returns.
 use Rattle.std.proofs.Common.{◌≡◌, Err, drop, sym, subst, arith, rules}
 use Rattle.cs_ast.specs.declared.raw.expression.RawExpr.{RawExpr}
 use Rattle.cs_ast.specs.RawView.{written}

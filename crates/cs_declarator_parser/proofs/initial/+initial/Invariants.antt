@@ -1,4 +1,4 @@
--- The limit and the part that are left: the measure of the parts; and what their loop keeps.
+-- The remaining limit and the part: the measure of the parts; and the invariant of their loop.
 use Rattle.std.proofs.Common.{◌≤◌, ◌<◌, ◌+◌, ◌-◌, ◌*◌, map, length}
 use Rattle.cs_ast.specs.declared.token.TokenKind.TheVariants as token
 use Rattle.cs_ast.specs.declared.token.Punctuator.TheVariants as punctuator

@@ -1,4 +1,4 @@
--- Whether bytes are text, as std finds it and as it defines it.
+-- Whether bytes are valid UTF-8, as std decides it and as it is defined.
 use Rattle.std.proofs.Common.{◌≡◌, ℕ, true, false, List, refl, sym}
 use Rattle.std.specs.Str.{IsUtf8, is_utf8}
 use Rattle.std.proofs.lemmas.Str.{IsUtf8-from_is_utf8, is_utf8-from_IsUtf8}

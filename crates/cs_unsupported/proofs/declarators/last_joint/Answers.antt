@@ -1,4 +1,4 @@
--- The last token says.
+-- The last token determines the result.
 use Rattle.std.proofs.Common.{sym, ap, ◌∙◌}
 use Rattle.std.specs.Option.{option_copied}
 use Rattle.cs_unsupported.specs.declared.declarators.Joint.TheVariants.{Open}

@@ -1,4 +1,4 @@
--- One more token is no longer than the longest.
+-- After one more token, the longest is at least as long as the token's name.
 use Rattle.std.proofs.Common.{◌≡◌, max, ◌∙◌, arith}
 use Rattle.std.proofs.Math.Nat.{le-max_left, le-max_right}
 use Rattle.cs_unsupported.proofs.NewNames.{max_is, kind_within, item_within}

@@ -1,4 +1,4 @@
--- Where no name among the tokens that are left is longer than so many bytes, and the longest before isn't, no name is.
+-- If no name among the remaining tokens is longer than so many bytes, and the longest before isn't, no name is.
 use Rattle.std.proofs.Common.{ℕ, ◌<◌, ◌≤◌, ◌^◌, drop}
 use Rattle.cs_unsupported.specs.Declarators.{AreNamesWithin}
 use Rattle.cs_unsupported.specs.Readings.{kinds}

@@ -1,4 +1,4 @@
--- The token that decides, by the last one.
+-- The token that decides, given the last one.
 use Rattle.std.proofs.Common.{sym, ◌∙◌}
 use Rattle.cs_unsupported.specs.Readings.{kinds}
 use Rattle.cs_unsupported.proofs.NameFiles.{asked_none, asked_star, asked_new}

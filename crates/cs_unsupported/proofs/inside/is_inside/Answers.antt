@@ -1,4 +1,4 @@
--- The site after all tokens says whether they are inside.
+-- The site after all tokens determines whether they are inside.
 use Rattle.std.proofs.Common.{sym, ap, ◌∙◌}
 use Rattle.cs_unsupported.specs.Sites.{Site, is_inside}
 use Rattle.cs_unsupported.specs.Readings.{kinds}

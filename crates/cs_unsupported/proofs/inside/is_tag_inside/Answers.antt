@@ -1,4 +1,4 @@
--- The site after all tokens says whether they are inside, and whether the last of them are a tag's.
+-- The site after all tokens determines whether they are inside, and whether the last of them are a tag's.
 use Rattle.std.proofs.Common.{sym, ap, ◌∙◌}
 use Rattle.std.proofs.lemmas.Bool.{false≢true}
 use Rattle.cs_unsupported.specs.Sites.{Site, is_inside, is_tagging}

@@ -1,4 +1,4 @@
--- The tokens that are left come to what all of them do.
+-- The remaining tokens lead to the site that all of them lead to.
 use Rattle.std.proofs.Common.{◌≡◌, drop}
 use Rattle.cs_unsupported.specs.Sites.{the_first, run}
 use Rattle.cs_unsupported.specs.Readings.{kinds, site_of}

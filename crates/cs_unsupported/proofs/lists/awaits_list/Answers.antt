@@ -1,4 +1,4 @@
--- What is known after all tokens determines the role.
+-- The state after all tokens determines the role.
 use Rattle.std.proofs.Common.{◌≡◌, false, List, sym, ap, ◌∙◌}
 use Rattle.std.proofs.Math.ListN.{drop_of_length-le}
 use Rattle.cs_ast.specs.declared.token.Token.{Token}

@@ -1,4 +1,4 @@
--- The tokens that are left come to what all of them do.
+-- The remaining tokens lead to the spot that all of them lead to.
 use Rattle.std.proofs.Common.{◌≡◌, drop}
 use Rattle.cs_unsupported.specs.Spots.{the_start, run}
 use Rattle.cs_unsupported.specs.Readings.{kinds, spot_of}

@@ -1,4 +1,4 @@
--- What is known after all tokens is the answer.
+-- The state after all tokens is the result.
 use Rattle.std.proofs.Common.{List, sym, ap, ◌∙◌}
 use Rattle.std.proofs.Math.ListN.{drop_of_length-le}
 use Rattle.cs_ast.specs.declared.token.Token.{Token}

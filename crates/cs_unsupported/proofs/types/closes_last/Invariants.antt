@@ -1,4 +1,4 @@
--- The tokens that are left come to what all of them do.
+-- The remaining tokens lead to the state that all of them lead to.
 use Rattle.std.proofs.Common.{◌≡◌, false, drop}
 use Rattle.cs_unsupported.specs.Parentheses.{the_outside, run}
 use Rattle.cs_unsupported.specs.Readings.{kinds, parens_of}

@@ -1,4 +1,4 @@
--- What is said of the part's tokens is said of all.
+-- What holds for the tokens of the external declaration holds for all.
 use Rattle.std.proofs.Common.{◌≡◌, ◌↔◌, Bool, false, IsTrue, sym, ap, ◌∙◌, subst, drop}
 use Rattle.cs_grammar.specs.Text.{Kinds}
 use Rattle.cs_grammar.specs.FileRefusals.{IsAfterType}

@@ -1,4 +1,4 @@
--- So many jumps lead to the spot that is looked at.
+-- So many jumps lead to the current spot.
 use Rattle.cs_cfg.specs.GraphView.{code}
 use Rattle.cs_cfg.proofs.Endless.{Hops}
 use Rattle.cs_cfg.proofs.code.Code.settled.Given as goal

@@ -1,4 +1,4 @@
--- A part was refused, one more was taken, or all were.
+-- An external declaration was refused, one more was taken, or all were.
 use Rattle.std.proofs.Common.{◌≡◌, Err, sym, subst, rules}
 use Rattle.std.specs.Result.{IfErr}
 use Rattle.cs_decl_parser.specs.Files.{parts_of}

@@ -1,4 +1,4 @@
--- So many parts of the file were taken, and the names of its typedefs are known.
+-- So many external declarations were taken, and the typedef names after them are known.
 use Rattle.std.proofs.Common.{◌≤◌, ◌-◌, length}
 use Rattle.cs_decl_parser.specs.Files.{parts_of}
 use Rattle.cs_decl_parser.proofs.FileSites.{PartsSoFar}
