@@ -154,7 +154,7 @@ module _ (s : List Interval) (k : ℕ) (d : Interval) (spread : IsSpread s) (wit
 pub listing_all : (s : List Interval) (k : ℕ) (numbers : List ℤ) → length s ≤ k → IsListing (take k s) numbers → IsListing s numbers
 listing_all s k numbers over listing = subst (λ l. IsListing l numbers) (take_all k s over) listing
 
--- the numbers that were there and those from one number to before another, in order
+-- the earlier numbers and those between two bounds, in order
 pub record AreSoFar (before : List ℤ) (low next : ℤ) (numbers : List ℤ) : Type 0 where
   pub ascending : IsAscending numbers
   pub members : (x : ℤ) → Contains numbers x ↔ (Contains before x ⊎ ((low ≤ℤ x) × (x <ℤ next)))
@@ -253,7 +253,7 @@ followed_are s least nearest greatest numbers is_least is_nearest is_greatest ea
   );
 }
 
--- three numbers, each pushed where the next is greater
+-- three numbers, each pushed if the next one is greater
 abbrev pub IsPushed : ℤ → ℤ → List ℤ → List ℤ → Type 0
 IsPushed number next before after = ((number <ℤ next) × (after ≡ before ++ number ∷ [])) ⊎ ((next ≤ℤ number) × (after ≡ before))
 
@@ -279,7 +279,7 @@ one_of_three a b c x has = elim (one_of a (b ∷ c ∷ []) x has) [
   | inr later ↦ inr (one_of_two b c x later)
 ]
 
--- what has the first, the second and the third has each of the three
+-- a list that contains the first, the second and the third contains each of the three
 has_each : (a b c : ℤ) (xs : List ℤ) → Contains xs a → Contains xs b → Contains xs c → (x : ℤ) → (x ≡ a) ⊎ (x ≡ b) ⊎ (x ≡ c)
     → Contains xs x
 has_each a b c xs first second third x (inl same) = equal_is xs x a same first

@@ -19,7 +19,7 @@ use Rattle.cs_access.specs.Kinds.{AreFaultyKinds, IsNextKind, IsListed, HasFault
 use Rattle.cs_access.specs.declared.checking.FaultyKind.{FaultyKind}
 use Rattle.cs_access.proofs.Splits.{has_values}
 
--- a checker whose answer has no condition, or one that is listed
+-- a checker whose answer has no condition, or whose kind is listed
 module _ (kind : Kind) (subject : Subject) (answer : Answer) (faults : YieldsFaults kind subject answer.conds) (terms : HasTermsFor subject answer.conds) where
   pub none_next : (found : List FaultyKind) → ((numbers : Valuation) → some_holds answer.conds numbers ≡ false) → IsNextKind subject kind found found
   none_next found never = inl (λ v can. sym (faults v (has_values subject v can)) ∙ never v, refl)
@@ -31,7 +31,7 @@ module _ (kind : Kind) (subject : Subject) (answer : Answer) (faults : YieldsFau
       exact v can =
           values subject terms v can ∙ faults v (has_values subject v can) ∙ ap (λ (k : Kind). is_faulty_for k subject v) (sym same)
 
--- none of two conditions that aren't there holds
+-- none of two absent conditions holds
 pub none_of_two : (conds : List (Option Cond)) (numbers : Valuation) → length conds ≡ 2 → get_or conds 0 None ≡ None → get_or conds 1 None ≡ None
     → some_holds conds numbers ≡ false
 unfolding some_holds
@@ -66,7 +66,7 @@ append_nil : {C : Type 0} (xs : List C) → xs ++ [] ≡ xs
 append_nil [] = refl
 append_nil (x ∷ xs) = ap (λ l. x ∷ l) (append_nil xs)
 
--- so many checkers were asked: their kinds are kept, each has counted one question, and the kinds with conditions are listed
+-- this many checkers were queried: their kinds are kept, each has counted one query, and the kinds with conditions are listed
 pub record AreAsked {C : Type 0} (kind : C → Kind) (count : C → ℕ) (subject : Subject) (olds news : List C) (place : ℕ) (complete : Bool)
     (found : List FaultyKind) : Type 0 where
   pub counted : HaveCounted count (take place olds) (take place news)
@@ -92,7 +92,7 @@ module _ {C : Type 0} (kind : C → Kind) (count : C → ℕ) (subject : Subject
     as_many = ap length same;
   }
 
-  -- one more checker was asked
+  -- one more checker was queried
   pub asked_more : (olds news : List C) (place : ℕ) (before after : Bool) (found more : List FaultyKind) (d new : C)
       → AreAsked kind count subject olds news place before found → place < length news
       → CountsOne (count (get_or news place d)) (count new) → kind new ≡ kind (get_or news place d)
@@ -125,7 +125,7 @@ module _ {C : Type 0} (kind : C → Kind) (count : C → ℕ) (subject : Subject
       olds_split : take (place + 1) olds ≡ take place olds ++ get_or news place d ∷ []
       olds_split = take_more olds place d within_olds ∙ ap (λ x. take place olds ++ x ∷ []) (sym here)
 
-  -- the same where the list came from several ways
+  -- the same for any list of checkers that equals the new one
   pub asked_joined : (olds news : List C) (place : ℕ) (before after : Bool) (found more : List FaultyKind) (d new : C) (joined : List C)
       → AreAsked kind count subject olds news place before found → place < length news → joined ≡ set news place new
       → CountsOne (count (get_or news place d)) (count new) → kind new ≡ kind (get_or news place d)
@@ -135,7 +135,7 @@ module _ {C : Type 0} (kind : C → Kind) (count : C → ℕ) (subject : Subject
       subst (λ (ns : List C). AreAsked kind count subject olds ns (place + 1) after more) (sym is)
       (asked_more olds news place before after found more d new asked within one same next)
 
--- what the list of checkers is in the end
+-- the list of checkers at the end
 all_new : {C : Type 0} (olds news : List C) (n : ℕ) → length news ≡ length olds → n ≡ length olds
     → take n (news ++ drop (length news) olds) ≡ news
 all_new olds news n many whole =

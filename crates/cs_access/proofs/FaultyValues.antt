@@ -51,7 +51,7 @@ decides_inside (Reached standing) v can = (omega (arith, ints), omega (arith, in
 decides_inside (Pair same) v can = (omega (arith, ints), omega (arith, ints))
 decides_inside (Written fixed) v can = (omega (arith, ints), omega (arith, ints))
 
--- what a condition's term is: the deciding term and 0, or two numbers
+-- the term of a condition is the deciding term plus 0, or the sum of two numbers
 abbrev IsDecided : Subject → Lin2 → Type 0
 IsDecided subject term = (term ≡ with_zero (term_of subject)) ⊎ (IsNumber term.first × IsNumber term.second)
 
@@ -76,7 +76,7 @@ decided (Written fixed) v term can (inl own) = cc
 plus_zero : (x : ℤ) → x +ℤ pos 0 ≡ x
 plus_zero x = omega (arith, ints)
 
--- where the term has a symbol, the values are those in the intervals
+-- if the term has a symbol, the faulty values are those in the intervals
 pub over_symbol : (cond : Cond) (set : List Interval) → cond.term.first.sym ≢ None → ((x : ℤ) → IsInside x → contains set x ≡ contains cond.bad x)
     → AreFaultyValues (Some cond ∷ []) set
 unfolding HasTermsFor
@@ -91,7 +91,7 @@ over_symbol cond set symbol same subject terms v can =
 pub number_is : (v : Valuation) (term : Lin) → term.sym ≡ None → value_of v term ≡ term.value
 number_is v term none = simp none refl
 
--- where it has none, they are all or none
+-- if it has none, all values are faulty or none is
 pub over_number : (cond : Cond) (set : List Interval) (met : Bool) → cond.term.first.sym ≡ None
     → met ≡ contains cond.bad (cond.term.first.value +ℤ cond.term.second.value) → ((x : ℤ) → IsInside x → contains set x ≡ met)
     → AreFaultyValues (Some cond ∷ []) set
@@ -106,7 +106,7 @@ over_number cond set met none is all subject terms v can =
     (λ i. number_is v cond.term.first none i +ℤ number_is v cond.term.second second i) in
     all (value_of v (term_of subject)) (decides_inside subject v can) ∙ is ∙ ap (contains cond.bad) (sym value) ∙ sym (some_holds-one cond v)
 
--- an interval of numbers of 128 bits has no number past them
+-- an interval between numbers of 128 bits has no number beyond these
 pub sum_past : (i : Interval) (sum : ℤ) → (FitsSigned w128 sum → ⊥) → FitsSigned w128 i.low → FitsSigned w128 i.high → false ≡ in_interval i sum
 sum_past i sum past low high =
     elim (in_interval_yields i sum) [
@@ -114,7 +114,7 @@ sum_past i sum past low high =
       | inr outside ↦ sym outside.0
     ]
 
--- the bounds of a set
+-- comparisons with numbers beyond the bounds of sets
 pub past_all : (low x : ℤ) → pos (2 ^ 126) <ℤ low → IsInside x → (int_le (pos 1) x && int_le x (pos 0)) ≡ int_le low x
 past_all low x past inside = grind (arith, ints, inside.1)
 
@@ -197,7 +197,7 @@ same_sum a b first second = λ j. to_z-of_z w128 a first j +ℤ to_z-of_z w128 b
 pub not_met : (a b : Bool) → a ≡ false → b ≡ false → (a || b) ≡ false
 not_met a b first second = λ j. first j || second j
 
--- a number that is in one of the intervals
+-- a number that is in some interval of a set
 pub met_there : (s : List Interval) (k : ℕ) (d : Interval) (x : ℤ) → k < length s → in_interval (get_or s k d) x ≡ true → true ≡ contains s x
 unfolding contains
 met_there [] k d x within met = absurd (omega arith)

@@ -101,12 +101,12 @@ module _ (before : State) where
   abbrev FitsHere : Valuation → Type 0
   FitsHere v = Fits v before.constraints
 
-  -- the states that `narrowed` answers
+  -- the states that `narrowed` returns
   pub part_of : (term : Lin) (set : List Interval) (kept : State) → Keeps before.constraints term set kept.constraints
       → kept ≡ with_constraints kept.constraints before → MeansTheSame before kept → IsPart before (λ v. contains set (value_of v term)) kept
   part_of term set kept keeps rest means = record { exactly = keeps.exactly; some = keeps.some; rest = rest; means = means }
 
-  -- a test that answers the same wherever the state fits
+  -- a test that yields the same under each valuation that fits the state
   pub part_same : (one other : Valuation → Bool) (part : State) → ((v : Valuation) → FitsHere v → one v ≡ other v) → IsPart before one part
       → IsPart before other part
   part_same one other part same is = record {
@@ -150,7 +150,7 @@ module _ (before : State) where
         nothing_first : (p : FaultyPart) (rest : List FaultyPart) → [] ≡ p ∷ rest → ⊥
         nothing_first p rest e = cc
 
--- how far the split has come
+-- the split so far
 pub record IsSplit (before : State) (subject : Subject) (kinds : List Kind) (parts : List FaultyPart) (good : List Interval) : Type 0 where
   pub faults : AreFaults before subject kinds parts
   pub good_values : (v : Valuation) → Fits v before.constraints → contains good (value_of v (term_of subject)) ≡ not (is_faulty kinds subject v)
@@ -211,7 +211,7 @@ not_turned : (a b : Bool) → a ≡ not b → a ≡ false → b ≡ true
 not_turned a true e f = refl
 not_turned a false e f = cc
 
--- what is left in the end
+-- the rest at the end
 pub rest_is : (before : State) (subject : Subject) (kinds : List Kind) (parts : List FaultyPart) (good : List Interval) (all : Bool) (rest : Rest)
     → IsSplit before subject kinds parts good → (all ≡ true → parts ≡ []) → IsRestIn before (term_of subject) good all rest
     → IsRest before subject kinds rest
@@ -222,13 +222,13 @@ rest_is before subject kinds parts good all (Part part) split none is =
 rest_is before subject kinds parts good all Nothing split none is =
     λ v fits. not_turned _ (is_faulty kinds subject v) (split.good_values v fits) (is v fits)
 
--- what is left after all kinds
+-- the split after all kinds
 pub split_all : (before : State) (subject : Subject) (found : List FaultyKind) (place : ℕ) (parts : List FaultyPart) (good : List Interval)
     → length found ≤ place → IsSplit before subject (kinds_of (take place found)) parts good → IsSplit before subject (kinds_of found) parts good
 split_all before subject found place parts good over split =
     subst (λ fs. IsSplit before subject (kinds_of fs) parts good) (take_all place found over) split
 
--- kinds without faults don't count
+-- kinds without faults make no difference
 module _ (before : State) (subject : Subject) (can : CanCheck before.constraints subject) where
   never_here : (kind : Kind) → HasNoFaults subject kind → IsNeverFaulty before.constraints subject kind
   never_here kind none v fits = none v (can_decide before.constraints subject v can fits)
@@ -274,7 +274,7 @@ module _ (before : State) (subject : Subject) (can : CanCheck before.constraints
       part_same before _ (λ v. not (is_faulty kinds subject v)) part.value (λ v fits. ap not (same_faulty kinds found are v fits)) is
   rest_of_all kinds found Nothing are is = λ v fits. sym (same_faulty kinds found are v fits) ∙ is v fits
 
--- what is listed are the faulty values
+-- the listed values are the faulty ones
 pub values_listed : (subject : Subject) (kinds : List Kind) (found : List FaultyKind) → AreFaultyKinds subject kinds found
     → HaveFaultyValues subject found
 values_listed subject [] found are = All-same (HasFaultyValues subject) found [] are (All-nil (HasFaultyValues subject))
@@ -283,7 +283,7 @@ values_listed subject (k ∷ kinds) found (inr some) =
     All-same (HasFaultyValues subject) found (some.0 ∷ some.1) some.2
     (All-cons (HasFaultyValues subject) some.0 some.1 some.4 (values_listed subject kinds some.1 some.5))
 
--- nothing is listed
+-- no kind is listed
 pub none_listed : (subject : Subject) (kinds : List Kind) (found : List FaultyKind) → AreFaultyKinds subject kinds found → length found ≡ 0
     → AreFaultyKinds subject kinds []
 none_listed subject kinds [] are none = are

@@ -78,7 +78,7 @@ module _ (term : Lin) (is_term : IsTerm term) (symbol : term.sym ≢ None) where
       (λ less. less)
       (λ most. absurd (slope_there term.sym term.slope is_term symbol (omega (arith, ints, least, most))))
 
-  -- the offsets at ascending numbers, turned round where the term falls
+  -- the offsets at ascending numbers ascend, if they are reversed for a falling term
   pub offsets_ascend : (numbers : List ℤ) → IsAscending numbers → IsAscending (map (value_at term) (in_order term numbers))
   offsets_ascend numbers up = by_lt_z term.slope (pos 0)
       (λ negative.
@@ -186,7 +186,7 @@ module _ (before : State) (term : Lin) where
     states = tried_states offsets steps tried;
   }
 
-  -- the one offset of a number
+  -- the only offset of a constant
   pub number_reached : (splits : ℕ) (steps : List ReachedOffset) → term.sym ≡ None → AreTried before term (term.value ∷ []) steps
       → AreAll before term splits steps
   number_reached splits steps none tried = record {
@@ -236,7 +236,7 @@ module _ (before : State) (term : Lin) where
       complete = λ v fits. reached_has v fits (members (v is.sym.0) (fits is.sym.0 set is.set_is));
     }
 
-    -- those that are followed where there are too many
+    -- the offsets that are followed if there are too many
     pub too_many_reached : (splits size count : ℕ) → IsCount set size → splits < size → count ≡ min size (2 ^ 64 - 1) → AreFollowed set numbers
         → AreTooMany before term splits count steps
     too_many_reached splits size count counts many count_is followed = record {
@@ -253,7 +253,7 @@ module _ (before : State) (term : Lin) where
       );
     }
 
--- a term with no declared symbol has none
+-- a term whose symbol is declared but has no set has no symbol
 pub no_symbol : (sets : Sets) (symbol : Option Sym) → IsDeclared sets symbol → HasNoSet sets symbol → symbol ≡ None
 no_symbol sets None declared none = refl
 no_symbol sets (Some s) declared none = absurd (declared s refl (none s refl))
@@ -261,7 +261,7 @@ no_symbol sets (Some s) declared none = absurd (declared s refl (none s refl))
 pub only_one : (x y : ℤ) → (int_le x y && int_le y x) ≡ int_eq y x
 only_one x y = grind (arith, ints)
 
--- the part of the one value
+-- the part of the state with only this value
 pub reached_at : (before : State) (term : Lin) (only : List Interval) (step : ReachedOffset)
     → ((x : ℤ) → contains only x ≡ (int_le step.offset x && int_le x step.offset)) → IsPart before (λ v. contains only (value_of v term)) step.state
     → IsReachedAt before term step

@@ -32,7 +32,7 @@ use Rattle.cs_app.specs.Laws.{RefusedIsNotAccepted, TreesAreRefusedByTypes}
 use Rattle.cs_decl_parser.proofs.WholeFiles.{file_or_refused}
 use Rattle.cs_program.proofs.OneTyping.{one_typing}
 
--- what has a program has no fault
+-- a verdict isn't both a program and an error
 not_both : (verdict : Verdict TypedProgram) (program : TypedProgram) (code : TypeCode) (place : Place) → verdict ≡ Fine program
     → verdict ≡ Fault code place → ⊥
 not_both verdict program code place fine fault = cc
@@ -40,12 +40,12 @@ not_both verdict program code place fine fault = cc
 one_program : (verdict : Verdict TypedProgram) (one other : TypedProgram) → verdict ≡ Fine one → verdict ≡ Fine other → one ≡ other
 one_program verdict one other is also = cc
 
--- a verdict has one code and one place
+-- a verdict has only one code and one position
 one_fault : (verdict : Verdict TypedProgram) (code code' : TypeCode) (place place' : Place) → verdict ≡ Fault code place
     → verdict ≡ Fault code' place' → (code' ≡ code) × (place' ≡ place)
 one_fault verdict code code' place place' is also = (cc, cc)
 
--- the function that is asked for isn't both there and missing
+-- a function that exists isn't missing
 not_lacking : {A : Type 0} (entry : Option (List ℕ)) (program : TypedProgram) (text : List ℕ) (entries : List ℕ) → LacksEntry entry program text
     → entries_named entry program ≡ Some entries → A
 not_lacking None program text entries lacks named = absurd lacks
@@ -66,7 +66,7 @@ replay_is_answered files program words NoEntry text entry found answer =
     absurd cc
 replay_is_answered files program words status text entry found answer = outcome_answers status answer.2.outcome answer.2.yields
 
--- a program that suits the command is answered
+-- a program that suits the command has an answer
 program_is_answered : (checked : List Kind) (command : Command) (files : List (List ℕ)) (program : TypedProgram) (status : Status) (text : List ℕ)
     → Suits command program
     → IsProgramAnswer checked command files program status text → IsAnswered status
@@ -78,7 +78,7 @@ program_is_answered checked (Replay words) files program status text suits answe
 program_is_answered checked (Generate words) files program status text suits answer =
     yields_answer status (lists_report every_kind answer.results) answer.yields
 
--- the file's program is the one that suits the command, whichever tree it was made of
+-- the program of a file is the one that suits the command, whatever its tree
 accepted_is_answered : (checked : List Kind) (command : Command) (file : List ℕ) (lexed : Lexed) (tree : List RawExternal) (program : TypedProgram)
     (status : Status)
     (text : List ℕ) → HasProgram (model_of command) file lexed tree program → Suits command program → Accepts checked command file status text
@@ -88,7 +88,7 @@ accepted_is_answered checked command file lexed tree program status text h suits
     let same = one_program (typed_tree (model_of command) a.lexed a.tree) program a.program (again ∙ h.typed) a.accepted.typed in
     program_is_answered checked command a.lexed.files.items a.program status text (subst (Suits command) same suits) a.answer
 
--- a file whose tokens are a tree is refused by no check but that of types, which says what typing says of the tree
+-- a file that parses is only refused by type checking, with the error that typing finds
 pub trees_are_refused_by_types : TreesAreRefusedByTypes
 trees_are_refused_by_types model file lexed tree text h (too_long long line) = absurd (omega (arith, long, h.short))
 trees_are_refused_by_types model file lexed tree text h (by_lexing short refusal refused line) =
@@ -101,7 +101,7 @@ trees_are_refused_by_types model file lexed tree text h (by_type other two i cod
     let same = lexed_once file other lexed i.has_tokens h.has_tokens in
     (code, place, sym (one_typing model file lexed other tree two h i) ∙ fault, line ∙ ap (λ files. type_line files code place) same.files)
 
--- a file that is a program is refused by no check
+-- a file that has a program isn't refused
 not_refused : (model : DataModel) (file : List ℕ) (lexed : Lexed) (tree : List RawExternal) (program : TypedProgram) (text : List ℕ)
     → HasProgram model file lexed tree program → IsRefusal model file text → ⊥
 not_refused model file lexed tree program text h refusal =
@@ -123,7 +123,7 @@ suited_is_answered checked command file lexed tree program BadFile text h suits 
 suited_is_answered checked command file lexed tree program status text h suits accepts =
     accepted_is_answered checked command file lexed tree program status text h suits accepts
 
--- what is accepted has no other whole text than that of an answer
+-- the only whole text for an acceptable file is that of an answer
 pub acceptable_is_answered : (checked : List Kind) (words : List (List ℕ)) (left : Option (List ℕ)) (status : Status) (text : List ℕ)
     → (acceptable : IsAcceptable words left)
     → IsFileAnswer checked acceptable.command left status text → IsAnswered status
@@ -134,7 +134,7 @@ acceptable_is_answered checked words left status text acceptable answer =
 
 -- ---- a tree that typing refuses
 
--- is no program
+-- has no program
 not_accepted : (checked : List Kind) (command : Command) (file : List ℕ) (lexed : Lexed) (tree : List RawExternal) (code : TypeCode) (place : Place)
     (status : Status)
     (text : List ℕ) → Parses file lexed tree → typed_tree (model_of command) lexed tree ≡ Fault code place → Accepts checked command file status text
@@ -143,7 +143,7 @@ not_accepted checked command file lexed tree code place status text h fault a =
     let again = one_typing (model_of command) file lexed a.lexed tree a.tree h a.accepted.parsed in
     not_both (typed_tree (model_of command) a.lexed a.tree) a.program code place a.accepted.typed (again ∙ fault)
 
--- has the line of that refusal
+-- has the line of its type error
 refused_so : (model : DataModel) (file : List ℕ) (lexed : Lexed) (tree : List RawExternal) (code : TypeCode) (place : Place) (text : List ℕ)
     → Parses file lexed tree → typed_tree model lexed tree ≡ Fault code place → IsRefusal model file text
     → text ≡ type_line lexed.files.items code place
@@ -163,7 +163,7 @@ refused_with checked command file lexed tree code place BadFile text before now 
 refused_with checked command file lexed tree code place status text before now h fault accepts appended =
     not_accepted checked command file lexed tree code place status text h fault accepts
 
--- what typing refuses has no other whole text than the line of that refusal
+-- the only whole text for a tree that typing refuses is the line of its type error
 pub type_refused_is_told : (checked : List Kind) (words : List (List ℕ)) (left : Option (List ℕ)) (status : Status) (text : List ℕ)
     (before now : Option (List ℕ))
     → (refused : IsTypeRefused words left) → IsFileAnswer checked refused.command left status text → Appends before now text

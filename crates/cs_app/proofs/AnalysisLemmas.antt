@@ -33,7 +33,7 @@ range_more a zero = ap (λ (k : ℕ). k ∷ []) (omega arith)
 range_more a (suc n) =
     ap (λ (rest : List ℕ). a ∷ rest) (range_more (a + 1) n ∙ ap (λ (k : ℕ). range_with_len (a + 1) n ++ k ∷ []) (omega arith))
 
--- the functions with a body among one more
+-- the functions with a body, with one more function
 pub bodies_more : (program : TypedProgram) (n : ℕ)
     → filter (has_body program) (range_with_len 0 (n + 1))
     ≡ filter (has_body program) (range_with_len 0 n) ++ cond (has_body program n) (n ∷ []) []
@@ -48,14 +48,14 @@ bodies_more program n =
 pub all_bodies : (p : Program) → filter (has_body (typed_program p)) (range_with_len 0 (length p.functions.items)) ≡ bodies (typed_program p)
 all_bodies p = ap (λ (n : ℕ). filter (has_body (typed_program p)) (range_with_len 0 n)) (sym (length-map p.functions.items routine))
 
--- the function with a number has a body where the program's has
+-- a function has a body exactly if the program's has one
 body_at : (functions : List Function) (n : ℕ) (item : Function) → n < length functions → item ≡ get_or functions n item
     → is_some (unwrap_or (slice_get (map routine functions) n) (no_routine NOWHERE)).body ≡ is_some (routine item).body
 body_at functions n item there is = ap (λ (r : Routine). is_some r.body)
     (unwrap_or-slice_get (map routine functions) n (no_routine NOWHERE) ∙ get_or-map routine functions n item (no_routine NOWHERE) there
     ∙ ap routine (sym is))
 
--- one more function was looked at
+-- one more function was examined
 pub body_added : (p : Program) (n : ℕ) (item : Function) (old new : List ℕ) → n < length p.functions.items → item ≡ get_or p.functions.items n item
     → old ≡ filter (has_body (typed_program p)) (range_with_len 0 n) → new ≡ old ++ cond (is_some (routine item).body) (n ∷ []) []
     → new ≡ filter (has_body (typed_program p)) (range_with_len 0 (n + 1))
@@ -64,7 +64,7 @@ body_added p n item old new there is so_far added =
     ∙ ap (λ (b : Bool). filter (has_body (typed_program p)) (range_with_len 0 n) ++ cond b (n ∷ []) []) (sym (body_at p.functions.items n item there is))
     ∙ sym (bodies_more (typed_program p) n)
 
--- what holds of one holds of all of a list of one
+-- what holds for one result holds for all of a list of it
 alone : (P : EntryResult → Type 0) (one : EntryResult) → P one → (k : ℕ) (d : EntryResult) → k < 1 → P (get_or (one ∷ []) k d)
 alone P one holds zero d below = holds
 alone P one holds (suc k) d below = absurd (omega (arith, below))
@@ -84,20 +84,20 @@ results_more checked program budgets entries results i d one there before named 
       (alone (HasReasons program budgets) one (explains all));
 }
 
--- the function with the name is the one that is analyzed
+-- the function with the name is analyzed
 pub entry_named : (entry : Option (List ℕ)) (name : List ℕ) (program : TypedProgram) (n : ℕ) → entry ≡ Some name → entry_of name program ≡ Some n
     → entries_named entry program ≡ Some (n ∷ [])
 entry_named entry name program n is found =
     ap (λ (e : Option (List ℕ)). entries_named e program) is ∙ ap (option_map (λ (number : ℕ). number ∷ [])) found
 
--- an analysis answers
+-- an analysis is an answer
 pub analysis_answers : (checked : List Kind) (words : AnalyzeWords) (program : TypedProgram) (status : Status) (text : List ℕ)
     → IsAnalysis checked words program status text → IsAnalysisAnswer checked words program status text
 analysis_answers checked words program NoEntry text a =
     no_analysis NoEntry (lists_report words.kinds a.results) (λ e. cc) (λ e. cc) a.answer.yields
 analysis_answers checked words program _ text a = a
 
--- the line that says that no function has the name answers
+-- the line that no function has the name is an answer
 pub lacking_answers : (checked : List Kind) (words : AnalyzeWords) (program : TypedProgram) (status : Status) (text name : List ℕ)
     → words.entry ≡ Some name → entry_of name program ≡ None → status ≡ NoEntry → text ≡ codes "refused entry " ++ (name ++ codes "\n")
     → IsAnalysisAnswer checked words program status text

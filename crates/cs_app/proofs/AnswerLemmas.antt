@@ -40,13 +40,13 @@ use Rattle.cs_app.specs.Analyses.{IsAnalysisAnswer}
 use Rattle.cs_commands.proofs.ReplayLemmas.{no_outcome}
 
 -- ---- a program
--- a status that no analysis answers
+-- a status that no analysis has
 pub no_analysis : {A : Type 0} (status : Status) (found : Bool) → (status ≡ Clean → ⊥) → (status ≡ Found → ⊥)
     → status ≡ cond found Found Clean → A
 no_analysis status true not_clean not_found is = absurd (not_found is)
 no_analysis status false not_clean not_found is = absurd (not_clean is)
 
--- the answer of a command to the program that a file's tree is
+-- the answer to the program of a file's tree is the answer to the file
 answers_program : (checked : List Kind) (command : Command) (file : List ℕ) (lexed : Lexed) (parsed : List RawExternal) (program : TypedProgram)
     (status : Status)
     (text : List ℕ) → Parses file lexed parsed → typed_tree (model_of command) lexed parsed ≡ Fine program
@@ -56,7 +56,7 @@ answers_program checked command file lexed parsed program BadFile text h typed a
 answers_program checked command file lexed parsed program _ text h typed answer =
     record { lexed = lexed; tree = parsed; program = program; accepted = record { parsed = h; typed = typed }; answer = answer }
 
--- a program has no answer of words
+-- no answer to a program has the status of a bad command line
 no_answer_of_words : {A : Type 0} (checked : List Kind) (command : Command) (files : List (List ℕ)) (program : TypedProgram) (text : List ℕ)
     → IsProgramAnswer checked command files program BadWords text → A
 no_answer_of_words checked (Analyze words) files program text answer =
@@ -67,7 +67,7 @@ no_answer_of_words checked (Generate words) files program text answer =
     no_analysis BadWords (lists_report every_kind answer.results) (λ e. cc) (λ e. cc) answer.yields
 
 -- ---- a file
--- the line that refuses checked a tree that is no program answers the file that has it
+-- the line of a type error is the answer to the file with this tree
 refuses_type : (checked : List Kind) (command : Command) (file : List ℕ) (lexed : Lexed) (parsed : List RawExternal) (refusal : TypeRefusal) (status : Status)
     (text : List ℕ)
     → status ≡ BadFile → verdicts.IsRefused (typed_tree (model_of command) lexed parsed) refusal → IsTypeLine lexed.files.items refusal text
@@ -76,13 +76,13 @@ refuses_type checked command file lexed parsed (types.Code code place) status te
     subst (λ s. IsAnswer checked command file s text) (sym is) (inl (by_type lexed parsed h code place refused line))
 refuses_type checked command file lexed parsed types.Memory status text is refused line h = absurd line
 
--- a file that is too long has the line that says so
+-- the answer to a file that is too long is the line that states this
 long_answer : (checked : List Kind) (command : Command) (file : List ℕ) (status : Status) (text : List ℕ) → status ≡ BadFile
     → text ≡ codes "refused too-long 4194305\n"
     → MOST_BYTES < length file → IsAnswer checked command file status text
 long_answer checked command file status text is line long = subst (λ s. IsAnswer checked command file s text) (sym is) (inl (too_long long line))
 
--- the line of the check that a file doesn't pass answers it
+-- the line of the check that a file fails is the answer to it
 pub refuses : (checked : List Kind) (command : Command) (file : List ℕ) (refusal : FileRefusal) (status : Status) (text : List ℕ) → status ≡ BadFile
     → IsRefusedFor (model_of command) file refusal → IsFileLine refusal text → IsAnswer checked command file status text
 refuses checked command file file_refusal.TooLong status text is refused line = long_answer checked command file status text is line refused
@@ -94,7 +94,7 @@ refuses checked command file (file_refusal.Syntax refusal files) status text is 
 refuses checked command file (file_refusal.Types refusal files) status text is r line =
     refuses_type checked command file r.lexed r.tree refusal status text is r.refused (subst (λ names. IsTypeLine names refusal text) r.names line) r.parsed
 
--- the answer to a file's program answers the file
+-- the answer to a file's program is the answer to the file
 pub answers_file : (checked : List Kind) (command : Command) (file : List ℕ) (found : FileProgram) (status : Status) (text : List ℕ)
     → IsProgramOf (model_of command) file found → IsProgramAnswer checked command found.files.items (typed_program found.program) status text
     → IsAnswer checked command file status text
@@ -102,18 +102,18 @@ answers_file checked command file found status text h answer =
     answers_program checked command file h.lexed h.tree (typed_program found.program) status text h.accepted.parsed h.accepted.typed
     (subst (λ names. IsProgramAnswer checked command names (typed_program found.program) status text) h.names answer)
 
--- ---- what a source has left
+-- ---- what a source still has
 some_longer : (n : ℕ) → (file : List ℕ) × (n < length file)
 some_longer n = (replicate (n + 1) 0, omega (arith, length-replicate {A = ℕ} (n + 1) 0))
 
--- the file of a command that reads is what the source has left
+-- the file of a command that reads is what the source still has
 file_of_source : (command : Command) (left : Option (List ℕ)) → Reads command → file_of command left ≡ left
 file_of_source (Analyze words) left reads = refl
 file_of_source (Flow words) left reads = refl
 file_of_source (Replay words) left reads = refl
 file_of_source (Generate words) left reads = absurd reads
 
--- the line that refuses checked a file that is too long answers it
+-- the line for a file that is too long is the answer to it
 pub refuses_length : (checked : List Kind) (command : Command) (left : Option (List ℕ)) (status : Status) (text : List ℕ) → Reads command
     → status ≡ BadFile
     → text ≡ codes "refused too-long 4194305\n" → IfSome left (λ file. MOST_BYTES < length file) → IsFileAnswer checked command left status text
@@ -123,7 +123,7 @@ refuses_length checked command None status text reads is line long =
     let some = some_longer MOST_BYTES in
     (some.0, subst (λ l. IsLeft l some.0) (sym (file_of_source command None reads)) tt, long_answer checked command some.0 status text is line some.1)
 
--- an answer to the bytes that were read is one to the file, where the source's bytes are known
+-- an answer to the bytes that were read is an answer to the file, if the source's bytes are known
 pub answers_left : (checked : List Kind) (command : Command) (left : Option (List ℕ)) (file : List ℕ) (status : Status) (text : List ℕ) → Reads command
     → IfSome left (λ bytes. file ≡ bytes) → IsAnswer checked command file status text → IsFileAnswer checked command left status text
 answers_left checked command (Some bytes) file status text reads same answer =
@@ -132,7 +132,7 @@ answers_left checked command None file status text reads same answer =
     (file, subst (λ l. IsLeft l file) (sym (file_of_source command None reads)) tt, answer)
 
 -- ---- words
--- an answer to the file answers the words, too, where they mean the command
+-- an answer to the file is an answer to the words, if they mean the command
 whole_of_file : (checked : List Kind) (words : List (List ℕ)) (left : Option (List ℕ)) (command : Command) (status : Status) (text : List ℕ)
     → WordsMean words command
     → IsFileAnswer checked command left status text → IsWhole checked words left status text
@@ -141,7 +141,7 @@ whole_of_file checked words left command BadWords text meant answer =
     no_answer_of_words checked command a.lexed.files.items a.program text a.answer
 whole_of_file checked words left command _ text meant answer = (command, meant, answer)
 
--- the same of a function's result
+-- the same for a function's result
 pub whole_of_result : (checked : List Kind) (words : List (List ℕ)) (left : Option (List ℕ)) (command : Command) (r : Result Answer Failure)
     → WordsMean words command
     → IfOk r (λ answer. IsFileAnswer checked command left answer.status answer.text.items)
@@ -149,7 +149,7 @@ pub whole_of_result : (checked : List Kind) (words : List (List ℕ)) (left : Op
 whole_of_result checked words left command (Ok answer) meant h = whole_of_file checked words left command answer.status answer.text.items meant h
 whole_of_result checked words left command (Err failure) meant h = tt
 
--- the line that refuses checked the words
+-- the line that refuses the words
 pub whole_of_words : (checked : List Kind) (words : List (List ℕ)) (left : Option (List ℕ)) (status : Status) (text : List ℕ) (refusal : WordsRefusal)
     (n : ℕ)
     → status ≡ BadWords → refusal ≡ words_refusal.Words n → scan.IsRefusal words refusal
@@ -157,7 +157,7 @@ pub whole_of_words : (checked : List Kind) (words : List (List ℕ)) (left : Opt
 whole_of_words checked words left status text refusal n is one refused line =
     subst (λ s. IsWhole checked words left s text) (sym is) (n, subst (λ r. scan.IsRefusal words r) one refused, line)
 
--- the words that were read as a command mean it alone
+-- words that were read as a command mean only this one
 pub only_command : (checked : List Kind) (words : List (List ℕ)) (left : Option (List ℕ)) (one other : Command) (read : Result Command WordsRefusal)
     (r : Result Answer Failure)
     → read ≡ Ok one → (read ≡ Ok other) ⊎ (read ≡ Err words_refusal.Memory)
@@ -174,14 +174,14 @@ pub not_refused_words : {A : Type 0} (one : Command) (n : ℕ) (read : Result Co
 not_refused_words one n read is (inl e) = absurd cc
 not_refused_words one n read is (inr e) = absurd cc
 
--- the words that are refused mean no command
+-- words that are refused mean no command
 pub none_meant : {A : Type 0} (other : Command) (n : ℕ) (refusal : WordsRefusal) (read : Result Command WordsRefusal) → read ≡ Err refusal
     → refusal ≡ words_refusal.Words n → (read ≡ Ok other) ⊎ (read ≡ Err words_refusal.Memory) → A
 none_meant other n refusal read is one (inl e) = absurd cc
 none_meant other n refusal read is one (inr e) = absurd cc
 
 -- ---- statuses
--- a status that says whether something was found is an answer
+-- the status of a search for faults is that of an answer
 pub yields_answer : (status : Status) (found : Bool) → status ≡ cond found Found Clean → IsAnswered status
 yields_answer status true is = subst IsAnswered (sym is) tt
 yields_answer status false is = subst IsAnswered (sym is) tt
@@ -191,7 +191,7 @@ outcome_answers status (ends.Done returned) is = subst IsAnswered (sym is) tt
 outcome_answers status (ends.Fault kind at) is = subst IsAnswered (sym is) tt
 outcome_answers status (ends.Over budget at) is = subst IsAnswered (sym is) tt
 
--- an answer is written whole
+-- an answer was written whole
 answered_is_done : (status : Status) → IsAnswered status → IsDone status
 answered_is_done Clean answered = tt
 answered_is_done Found answered = tt
@@ -202,7 +202,7 @@ answered_is_done WriteFault answered = absurd answered
 answered_is_done Memory answered = absurd answered
 answered_is_done NoEntry answered = absurd answered
 
--- a program has no answer that is a fault of a stream or want of memory
+-- no answer to a program has the status of a stream's fault or of running out of memory
 analysis_is_done : (checked : List Kind) (words : AnalyzeWords) (program : TypedProgram) (status : Status) (text : List ℕ)
     → IsAnalysisAnswer checked words program status text → IsDone status
 analysis_is_done checked words program NoEntry text lacks = tt
@@ -223,7 +223,7 @@ program_is_done checked (Replay words) files program status text answer = replay
 program_is_done checked (Generate words) files program status text answer =
     answered_is_done status (yields_answer status (lists_report every_kind answer.results) answer.yields)
 
--- neither have words: the status of a whole text is one of those with which the text is written
+-- and neither has one to words: the status of a whole text is one with which the text is written
 pub whole_is_done : (checked : List Kind) (words : List (List ℕ)) (left : Option (List ℕ)) (status : Status) (text : List ℕ)
     → IsWhole checked words left status text → IsDone status
 whole_is_done checked words left Clean text h = tt

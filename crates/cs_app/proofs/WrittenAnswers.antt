@@ -9,7 +9,7 @@ use Rattle.cs_answers.specs.declared.status.Status.TheVariants.{ReadFault, Write
 use Rattle.cs_answers.specs.Statuses.{ended_with}
 use Rattle.cs_app.specs.Answers.{IsAnswered, IsDone, IsRead, IsRefusedWith, IsWhole, IsWritten}
 
--- the whole text was written where the run ends so
+-- a run that ends with this status has written the whole text
 pub ends_written : (checked : List Kind) (words : List (List ℕ)) (left : Option (List ℕ)) (status ended : Status) (text : List ℕ)
     (written : Result (Unit {0}) WriteRefusal)
     (before now : Option (List ℕ)) → ended ≡ ended_with status written → IsWhole checked words left status text
@@ -18,13 +18,13 @@ ends_written checked words left status ended text (Ok written) before now is who
     subst (λ s. IsWritten checked words left s before now) (sym is) (text, whole, appended)
 ends_written checked words left status ended text (Err refusal) before now is whole appended done = absurd (subst IsDone is done)
 
--- the file was read where it was read for the answer
+-- and has read the file, if it was read for the answer
 pub ends_read : (status ended : Status) (written : Result (Unit {0}) WriteRefusal) (at_end : Type 0) → ended ≡ ended_with status written
     → (IsRead status → at_end) → IsRead ended → at_end
 ends_read status ended (Ok written) at_end is read this = read (subst IsRead is this)
 ends_read status ended (Err refusal) at_end is read this = absurd (subst IsRead is this)
 
--- a run with an answer has no read fault, and memory for it
+-- a run with an answer has no read fault, and didn't run out of memory
 pub no_read_fault : {A : Type 0} (status ended : Status) (written : Result (Unit {0}) WriteRefusal) → ended ≡ ended_with status written
     → IsDone status → ended ≡ ReadFault → A
 no_read_fault status ended (Ok written) is done fault = absurd (subst IsDone (sym is ∙ fault) done)
@@ -41,13 +41,13 @@ pub sink_failed : (status ended : Status) (written : Result (Unit {0}) WriteRefu
 sink_failed status ended (Ok written) fault is done rose failed = absurd (subst IsDone (sym is ∙ failed) done)
 sink_failed status ended (Err refusal) fault is done rose failed = rose
 
--- what is answered is answered where the sink doesn't fail
+-- a run with an answer ends with it if the sink doesn't fail
 pub ends_answered : (status ended : Status) (written : Result (Unit {0}) WriteRefusal) (fault : Type 0) → ended ≡ ended_with status written
     → IsAnswered status → OnErr written fault → (fault → ⊥) → IsAnswered ended
 ends_answered status ended (Ok written) fault is answered rose none = subst IsAnswered (sym is) answered
 ends_answered status ended (Err refusal) fault is answered rose none = absurd (none rose)
 
--- and so is the line of a refusal
+-- and the same for the line of a refusal
 pub ends_refused : (line text : List ℕ) (status ended : Status) (written : Result (Unit {0}) WriteRefusal) (before now : Option (List ℕ))
     (fault : Type 0) → ended ≡ ended_with status written → (Appends before now text → IsRefusedWith line status before now)
     → OnOk written (Appends before now text) → OnErr written fault → (fault → ⊥) → IsRefusedWith line ended before now

@@ -29,7 +29,7 @@ use Rattle.cs_state.proofs.ReceivedMore.{direct_no_fill}
 use Rattle.cs_progress.proofs.NumberedObjects.{same_itself, equal_objects}
 use Rattle.cs_cells.proofs.Unfilled.{IsNeverFilled, bound_value, bound_over, never_filled}
 
--- contents with the same held at all offsets
+-- contents that hold the same at all offsets
 module _ (cell : Value → Cell) where
   pub same_held : (before after : Contents) → IsNeverFilled before → ((o : ℕ) → held_in after o ≡ held_in before o)
       → (block : Block) → written_over cell after block ≡ written_over cell before block
@@ -63,7 +63,7 @@ module _ (cell : Value → Cell) where
   same_unset : (fill : store.Fill) → Fill fill ≡ Fill Unset → fill ≡ Unset
   same_unset fill e = cc
 
-  -- nothing is bound any more in an object that was filled with nothing
+  -- after unbinding, an object that was never filled is unset
   pub none_bound : (before after : Contents) → IsNeverFilled before → ((o : ℕ) → held_in after o ≡ Fill Unset)
       → (block : Block) → block.fill ≡ UnsetFill → written_over cell after block ≡ refill UnsetFill (written_over cell before block)
   none_bound before after never none block unset =
@@ -85,7 +85,7 @@ module _ (program : TypedProgram) (names : Naming) (owners : List Owner) (blocks
   abbrev first : Memory
   first = unwritten program names owners blocks valuation
 
-  -- one base region has changed, and that is a change of its object
+  -- if only one base region changes, only its object does
   pub region_changed : (change : Block → Block) (before after : Regions) (base : ℕ) (region : Base) → IsNumbered names.bases
       → slice_get names.bases base ≡ Some region → ((b o : ℕ) → b ≢ base → held after b o ≡ held before b o)
       → ((b : ℕ) → IsNeverFilled (contents_of before b))
@@ -140,7 +140,7 @@ module _ (program : TypedProgram) (names : Naming) (owners : List Owner) (blocks
       by None e = absurd (none-some block e)
       by (Some v) e = ap (λ (b : Block). b.fill) (sym (same_Some (local_block program None v) block e))
 
-  -- nothing is bound in a local any more
+  -- a local is unbound
   pub unbinding_is_refill : (before after : Regions) (base frame declaration : ℕ) → IsNumbered names.bases
       → slice_get names.bases base ≡ Some (Local frame declaration) → ((b : ℕ) → IsNeverFilled (contents_of before b))
       → ((o : ℕ) → held after base o ≡ Fill Unset) → ((b o : ℕ) → b ≢ base → held after b o ≡ held before b o)

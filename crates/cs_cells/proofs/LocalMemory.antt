@@ -34,14 +34,14 @@ use Rattle.cs_cells.specs.InMemory.{memory_in}
 first_owner : (it : Owner) (owners : List Owner) → owner_numbered it.number (it ∷ owners) ≡ Some it
 first_owner it owners = ap (λ b. if b then Some it else owner_numbered it.number owners) (eq-eqb it.number it.number refl)
 
--- a place before the end of a list has an item
+-- a list has an item at each index below its length
 item_there : {A : Type 0} (xs : List A) (place : ℕ) → place < length xs → (x : A) × (slice_get xs place ≡ Some x)
 item_there xs place early = elim ((slice_get_cases xs place).1) [
   | inl there ↦ (there.0, there.2)
   | inr past ↦ absurd (omega (arith, early, past.0))
 ]
 
--- what is found where a value was bound, or else nothing was filled in
+-- the cell of an object is what was bound there; otherwise it is unset
 found_as : (program : TypedProgram) (object : Object) (block : Block) (contents : Contents) (cell : Value → Cell) (offset : ℕ)
     → cell value.Unset ≡ UnsetCell → block.fill ≡ UnsetFill
     → ((it : store.Fill) → held_in contents offset ≡ found.Fill it → it ≡ fill.Unset)
@@ -70,7 +70,7 @@ module _ (program : TypedProgram) (names : Naming) (state : State) (v : Valuatio
   abbrev cell : Value → Cell
   cell = cell_of names.bases state.blocks v
 
-  -- a local of the frame that runs is there as it was made, with what the store has of it
+  -- a local of the current frame is in memory as it was made, with the bindings of the store
   pub local_there : (variable : Variable) → slice_get (routine_of program state.frame.spot.function).variables declaration ≡ Some variable
       → memory local ≡ Some (written_over cell (contents_of state.store base) (local_block program None variable))
   local_there variable is =
@@ -86,7 +86,7 @@ module _ (program : TypedProgram) (names : Naming) (state : State) (v : Valuatio
       unwritten_local : Option Owner → Option Block
       unwritten_local found = option_and_then (λ it. local_of program it declaration) found
 
-  -- what it holds at an offset: what was bound there, or else nothing that was ever set
+  -- its cell at an offset: what was bound there, or else unset
   pub local_holds : declaration < count_of_locals program state.frame.spot.function → (offset : ℕ) → IsUnfilled state.store base offset
       → found_in program local (memory local) offset ≡ Holds (cell (value_held (held state.store base offset)))
   local_holds early offset unfilled =

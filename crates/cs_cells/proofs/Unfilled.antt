@@ -17,7 +17,7 @@ use Rattle.cs_events.specs.Objects.{Cell}
 use Rattle.cs_meaning.specs.Memory.{Block}
 use Rattle.cs_state.specs.Objects.{fill_over, written_over}
 
--- the numbers of all keys are below this
+-- a bound above the numbers of all keys
 above : {V : Type 0} → EntryList V → ℕ
 above [] = 0
 above (entry ∷ entries) = suc (entry.0.0 + above entries)
@@ -42,7 +42,7 @@ unbound direct =
     let n = above (finite.entries direct) in
     (n, finite.get-entries direct (n, 0) ∙ none_above (finite.entries direct) n (omega arith))
 
--- what is found was bound
+-- the value that was bound, if one was
 abbrev pub bound_value : Binding → Option Value
 bound_value (Direct value) = Some value
 bound_value (Fill fill) = None
@@ -63,11 +63,11 @@ unset_fill contents never =
     let (offset, none) = unbound contents.direct in
     never offset contents.fill (ap (λ bound. option_map_or (λ value. Direct value) bound (Fill contents.fill)) none)
 
--- an object with what was bound in it
+-- an object with the values that were bound in it
 abbrev pub bound_over : (Value → Cell) → (ℕ → Binding) → Block → Block
 bound_over cell found block = record block { written = λ offset. option_map cell (bound_value (found offset)) }
 
--- what is held at the offsets of a region that was never filled says all of what was written to its object
+-- what a region that was never filled holds at its offsets determines all that was written to its object
 pub never_filled : (cell : Value → Cell) (contents : Contents) → IsNeverFilled contents → (block : Block)
     → written_over cell contents block ≡ bound_over cell (held_in contents) block
 never_filled cell contents never block = λ i. record block {

@@ -31,7 +31,7 @@ use Rattle.cs_progress.specs.Stepping.{StaysInFrame}
 use Rattle.cs_cells.specs.InMemory.{memory_in}
 use Rattle.cs_cells.proofs.Bindings.{binding_is_write, unbinding_is_refill}
 
--- a place is this one, or another
+-- an offset of a base region is this one, or another
 place_tells : (b base o offset : ℕ) → ((b ≡ base) × (o ≡ offset)) ⊎ ((b ≢ base) ⊎ (o ≢ offset))
 place_tells b base o offset = elim (eqb_tells b base) [
   | inr other ↦ inr (inl other.1)
@@ -51,7 +51,7 @@ same_fill : (fill given : store.Fill) → Fill fill ≡ Fill given → given ≡
 same_fill fill given e = cc
 
 module _ (before after : State) (rest : after ≡ with_memory after.store after.read before) where
-  -- a write to memory leaves the frame where it is
+  -- a write to memory keeps the frame's position
   pub written_stays : StaysInFrame before after
   written_stays = subst (StaysInFrame before) (sym rest) (record {
     known = record { model = refl; constraints = refl; counters = refl; asked = refl; phase = refl; blocks = refl };
@@ -62,7 +62,7 @@ module _ (before after : State) (rest : after ≡ with_memory after.store after.
   })
 
   module _ (program : TypedProgram) (names : Naming) where
-    -- and changes memory alone
+    -- and changes only memory
     pub written_means : (code : Code) (v : Valuation)
         → meaning code names program after v ≡ machine.with_memory (memory_in program names after v) (meaning code names program before v)
     written_means code v =
@@ -70,7 +70,7 @@ module _ (before after : State) (rest : after ≡ with_memory after.store after.
         (sym rest) refl
 
     module _ (known : ℕ → Bool) (alone : HasLocalsAlone program names.bases known before) where
-      -- what is held after it was held before, or may be in the frame; what was read was so before
+      -- each value of the store was there before, or may be in the frame; and what was read was read before
       locals_written : ((b o : ℕ) (given : Value) → held after.store b o ≡ Direct given → IsIn program names.bases known before.frame given)
           → ((b o : ℕ) → IsUnfilled after.store b o)
           → ((b o : ℕ) (symbol : Sym) → read_at after.read b o ≡ Some symbol → read_at before.read b o ≡ Some symbol)
@@ -93,7 +93,7 @@ module _ (before after : State) (rest : after ≡ with_memory after.store after.
             let offset_is = sym same.1 in
             sym here ∙ (λ i. held after.store (base_is i) (offset_is i))
 
-        -- a value was bound that may be in the frame
+        -- a value that may be in the frame was bound
         pub locals_bound : read_at after.read base offset ≡ None
             → ((b o : ℕ) → (b ≢ base) ⊎ (o ≢ offset) → read_at after.read b o ≡ read_at before.read b o)
             → IsIn program names.bases known before.frame value → HasLocalsAlone program names.bases known after
@@ -123,7 +123,7 @@ module _ (before after : State) (rest : after ≡ with_memory after.store after.
 
       module _ (base : ℕ) (none : (o : ℕ) → held after.store base o ≡ Fill Unset)
           (elsewhere : (b o : ℕ) → b ≢ base → held after.store b o ≡ held before.store b o) where
-        -- nothing is bound in a base region any more
+        -- a base region is unbound
         pub locals_unbound : ((o : ℕ) → read_at after.read base o ≡ None)
             → ((b o : ℕ) → b ≢ base → read_at after.read b o ≡ read_at before.read b o) → HasLocalsAlone program names.bases known after
         locals_unbound gone others =
@@ -141,7 +141,7 @@ module _ (before after : State) (rest : after ≡ with_memory after.store after.
               | inr other ↦ sym (others b o other.1) ∙ is
             ])
 
-        -- a local holds nothing any more
+        -- a local is unset
         pub memory_unbound : (frame declaration : ℕ) → IsNumbered names.bases → slice_get names.bases base ≡ Some (Local frame declaration)
             → (v : Valuation)
             → memory_in program names after v ≡ changed (refill UnsetFill) (LocalObject frame declaration) (memory_in program names before v)

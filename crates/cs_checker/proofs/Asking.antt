@@ -17,7 +17,7 @@ append_nil : {C : Type 0} (xs : List C) → xs ++ [] ≡ xs
 append_nil [] = refl
 append_nil (x ∷ xs) = ap (λ l. x ∷ l) (append_nil xs)
 
--- the checkers that are still to be asked are as they were
+-- the checkers that weren't queried yet are unchanged
 pub rest_step : {C : Type 0} (olds news : List C) (i : ℕ) (old new : C) → drop i news ≡ drop i olds → i < length news → length news ≡ length olds
     → drop (i + 1) (set news i new) ≡ drop (i + 1) olds
 rest_step olds news i old new rest more same_length =
@@ -45,7 +45,7 @@ module _ {C : Type 0} (kind : C → Kind) (count : C → ℕ) (subject : Subject
   kinds_kept (o ∷ olds) (n ∷ news) [] asked = absurd asked
   kinds_kept (o ∷ olds) (n ∷ news) (a ∷ answers) asked = λ i. asked.0.kept i ∷ kinds_kept olds news answers asked.1 i
 
-  -- one more checker was asked
+  -- one more checker was queried
   pub asked_step : (olds news : List C) (i : ℕ) (answers after : List Answer) (d new : C) (answer : Answer)
       → IsAsked kind count subject (take i olds) (take i news) answers → drop i news ≡ drop i olds → i < length news → length news ≡ length olds
       → after ≡ answers ++ answer ∷ []
@@ -60,7 +60,7 @@ module _ {C : Type 0} (kind : C → Kind) (count : C → ℕ) (subject : Subject
       ∙ ap (λ x. take i olds ++ x ∷ []) (sym first) in
       rw (olds_split, take_more_set news i new more, grown) (asked_after (take i olds) (take i news) answers (get_or news i d) new answer asked by)
 
-  -- all were asked
+  -- all were queried
   pub asked_all : (olds news : List C) (answers : List Answer) (i n : ℕ) → IsAsked kind count subject (take i olds) (take i news) answers
       → length news ≤ i → length news ≡ length olds → n ≡ length olds → map kind (take n (news ++ drop (length news) olds)) ≡ map kind olds
   asked_all olds news answers i n asked done same_length len =

@@ -21,21 +21,21 @@ eq_yields x y = by (int_eq x y) refl
     by false t = inr (t, λ e. cc (sym t ∙ (Decides-int_eq x y).1 e))
 
 module _ (i j : Interval) (x : ℤ) where
-  -- just 0
+  -- only 0
   pub only_zero : i.low ≡ pos 0 → i.high ≡ pos 0 → j.low ≡ pos 1 → j.high ≡ pos 0 → contains (i ∷ j ∷ []) x ≡ int_eq x (pos 0)
   only_zero low high from upto = pair i j x ∙ grind (arith, ints, in_interval_yields i x, in_interval_yields j x, eq_yields x (pos 0))
 
-  -- all but 0
+  -- all numbers except 0
   pub not_zero : i.low ≡ neg_ℤ (pos (2 ^ 126)) → i.high ≡ negsuc 0 → j.low ≡ pos 1 → j.high ≡ pos (2 ^ 126) → IsInside x
       → contains (i ∷ j ∷ []) x ≡ not (int_eq x (pos 0))
   not_zero low high from upto inside = pair i j x ∙ grind (arith, ints, in_interval_yields i x, in_interval_yields j x, eq_yields x (pos 0))
 
-  -- what is below 0
+  -- the numbers below 0
   pub below_zero : i.low ≡ neg_ℤ (pos (2 ^ 126)) → i.high ≡ negsuc 0 → j.low ≡ pos 1 → j.high ≡ pos 0 → IsInside x
       → contains (i ∷ j ∷ []) x ≡ int_lt x (pos 0)
   below_zero low high from upto inside = pair i j x ∙ grind (arith, ints, in_interval_yields i x, in_interval_yields j x)
 
-  -- what no operand of this width can be shifted by
+  -- the numbers by which no operand of this width can be shifted
   pub outside_width : (width : ℕ) → i.low ≡ neg_ℤ (pos (2 ^ 126)) → i.high ≡ negsuc 0 → j.low ≡ pos width → j.high ≡ pos (2 ^ 126)
       → IsInside x
       → contains (i ∷ j ∷ []) x ≡ (int_lt x (pos 0) || int_le (pos width) x)

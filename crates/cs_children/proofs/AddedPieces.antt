@@ -16,7 +16,7 @@ use Rattle.cs_children.specs.declared.children.Children.{Children}
 use Rattle.cs_children.specs.Adding.{Adds, AddsChildren, AddsPieces}
 use Rattle.cs_pieces.specs.Pieces.{IsNextEvent, over, shows}
 
--- a number of the next event that isn't there, or is there
+-- the next event has a number exactly if the budget of events isn't used up
 pub full_of : (found : Option ℕ) (limit passed : ℕ) (none : Bool) → MatchOption found (limit ≤ passed) (IsNextEvent limit passed)
     → is_some found ≡ not none → none ≡ true → limit ≤ passed
 full_of None limit passed none next some is = next
@@ -29,7 +29,7 @@ room_of None limit passed true next some is = cc
 room_of None limit passed false next some is = cc
 room_of (Some number) limit passed none next some is = next.0
 
--- what isn't found has no set
+-- a symbol that isn't found has no set
 pub not_found : {T X : Type 0} (found : Option T) (f : T → X) (set : Option X) (some : Bool) → option_map f found ≡ set → some ≡ is_some found
     → some ≡ false → set ≡ None
 not_found None f set some is known isnt = sym is
@@ -38,7 +38,7 @@ not_found (Some x) f set false is known isnt = cc
 
 module _ {X Y : Type 0} (result : Result X Y) (limit : ℕ) (rules : List Rule) (state : Box State) (at : Place) (AreSplit : Sym → List Piece → Type 0)
     (before after : Children) where
-  -- the end where the budget of events is used up
+  -- the end if the budget of events is used up
   pub over_added : (outcome : Outcome) → outcome ≡ Over Events at → limit ≤ state.value.counters.events
       → OnOk result (Adds before after [] ((outcome, state) ∷ [])) → OnOk result (AddsPieces limit rules state at AreSplit before after)
   over_added outcome is full adds =

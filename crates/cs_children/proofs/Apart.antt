@@ -32,11 +32,11 @@ pub ends_apart : (before after : Children) (end : StateEnd) → after.ends.items
     → KeepApart before after
 ends_apart before after end is others = λ differ. subst OutcomesDiffer (sym is) (apart_push before.ends.items end others differ)
 
--- where no end is added
+-- no end is added
 pub same_apart : (before after : Children) (made : List Child) → Adds before after made [] → KeepApart before after
 same_apart before after made adds = λ differ. subst OutcomesDiffer (sym (adds.endings ∙ append-nil before.ends.items)) differ
 
--- one part of the work after another
+-- one part of the work after the other
 pub adds_on : (before middle after : Children) (made more : List Child) (ends others : List StateEnd) → Adds before middle made ends
     → Adds middle after more others → Adds before after (made ++ more) (ends ++ others)
 adds_on before middle after made more ends others first second = record {

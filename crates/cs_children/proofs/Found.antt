@@ -81,12 +81,12 @@ explores_before exploration one two names program more explores = record {
   numbered = explores.numbered;
 }
 
--- checkers that keep their kinds have every kind still
+-- checkers that keep their kinds still have every kind
 pub has_every_kind : {Checker : Type 0} (kind : Checker → Kind) (before after : List Checker) → map kind after ≡ map kind before
     → HasEveryKind kind before → HasEveryKind kind after
 has_every_kind kind before after same every = λ fault. subst (Any (λ one. one ≡ fault)) (sym same) (every fault)
 
--- nothing has come of a state yet
+-- no successor was found yet
 pub finds_none_yet : (exploration : Exploration) (given : Naming) (state : State) (found : Children) → AreNone found
     → FindsSoFar exploration given state state found
 finds_none_yet exploration given state found none = record {
@@ -100,14 +100,14 @@ finds_none_yet exploration given state found none = record {
 pub none_differ : (found : Children) → AreNone found → OutcomesDiffer found.ends.items
 none_differ found none = subst OutcomesDiffer (sym none.ends) (λ one other first second here there. cc)
 
--- what stands first in an act that shows numbers alone
+-- the first operation of an act of integer code
 shown_plain : {S : Type 0} {at : Place} {one : Operation} {onward : ℤ → Act S} → ShowsNumbers (Asks at one onward) → IsOfIntegers one
 shown_plain (asks plain onward) = plain
 
 never_reaches : {S : Type 0} {at : Place} {object : Object} {offset : ℤ} {act : Act S} → ShowsNumbers (Reaches at object offset act) → ⊥
 never_reaches numbers = elim numbers [ ]
 
--- the case that a way is
+-- the number of a case
 way_number : (cases : List SwitchCase) (otherwise count : ℕ) (number : ℤ)
     → (way_of (map view.switch_case cases) otherwise number count).number ≡ count + case_of cases number
 way_number [] otherwise count number = omega arith
@@ -124,7 +124,7 @@ module _ (code : graph.Code) (program : TypedProgram) (budgets : RunBudgets) (na
   abbrev Left : (Path → InputKind → Cell) → Valuation → Act CodeState
   Left cells v = next_left code names program budgets cells box.value v
 
-  -- an end is all that comes of a state whose runs end so
+  -- an end is the only successor of a state whose runs all end so
   end_comes : (outcome : Outcome)
       → ((cells : Path → InputKind → Cell) (v : Valuation) → Fits v box.value.constraints → EndsAs names.bases box.value v outcome (Left cells v))
       → Comes code program budgets names rules box.value [] ((outcome, box) ∷ [])
@@ -148,7 +148,7 @@ module _ (code : graph.Code) (program : TypedProgram) (budgets : RunBudgets) (na
             returned = end.has_returned;
           }
 
-  -- the pieces of a question are all that comes of a state in which it shows
+  -- the children of a question's pieces are all successors of a state in which it comes first
   answers_come : (at : Place) (asked : Question) (limit : ℕ) (model : DataModel) (given : Naming) → limit ≡ budgets.events → program.model ≡ model
       → Extends given names → Shows code program budgets names rules box.value is at (asking_of program.model box.value.constraints asked)
       → (made : List Child) (ends : List StateEnd) → ComesOfPieces limit rules box at (AreOfQuestion model given box.value asked) made ends
@@ -168,11 +168,11 @@ module _ (code : graph.Code) (program : TypedProgram) (budgets : RunBudgets) (na
       over_comes code program budgets names rules box is at (asking_of program.model box.value.constraints asked) first
       (subst (λ (n : ℕ). n ≤ box.value.counters.events) same full)
 
-  -- and those of a `switch`
+  -- and so are those of a `switch`
   module _ (at : Place) (term : Lin)
       (first : (cells : Path → InputKind → Cell) (v : Valuation) → Fits v box.value.constraints
       → ShowsCase code box.value v at term (Left cells v)) where
-    -- the case that shows, by the cases that stand at the spot
+    -- the case that is shown, by the cases at the spot
     case_shows : (temporary : ℕ) (cases : List graph.SwitchCase) (otherwise : ℕ) (place : Place)
         → point_of code box.value.frame.spot ≡ record { operations = []; end = graph.Switch place temporary cases otherwise }
         → (cells : Path → InputKind → Cell) (v : Valuation) → Fits v box.value.constraints
@@ -266,7 +266,7 @@ module _ (exploration : Exploration) (given : Naming) (before state : State) (fo
           left_shows cells (map (value_of v) after.answers)
           (code_shows code program limits after.frame.spot (meaning code names program after v) refl waiting.integer.integers)
 
-      -- all that comes then is all that comes of the state before
+      -- its successors are those of the state before
       finished : (made : List Child) (ends : List StateEnd) (all : Children) → Comes code program limits names rules after made ends
           → Adds found all made ends → OutcomesDiffer all.ends.items
           → ComesOfState code program limits names rules before all.made.items all.ends.items × (all.cuts.items ≡ [])
@@ -291,7 +291,7 @@ module _ (exploration : Exploration) (given : Naming) (before state : State) (fo
   }
 
   module _ (middle : State) (at : Place) (checked : Box Checked) (steps : Stepped middle (next.Checks at checked)) where
-    -- faulty parts have ended, and the rest goes on
+    -- faulty parts have ended, and the rest continues
     pub finds_rest : (all : Children) (after : State) (goes : Bool) → AddsFaulty at checked.value.faults.items found all
         → GoesOn checked.value.rest goes middle after → goes ≡ true → FindsSoFar exploration later before after all
     finds_rest all after goes (ends, adds, match) on is_true = record {
@@ -326,7 +326,7 @@ module _ (exploration : Exploration) (given : Naming) (before state : State) (fo
       finished names program explores is box.value (next.Ends outcome) waits mentions [] ((outcome, box) ∷ []) all
       (end_comes code program limits names rules box here.integer outcome first) adds differ
 
-  -- a question shows
+  -- a question comes first
   pub finds_answers : (box : Box State) (at : Place) (asked : Question) → Stepped box.value (next.Asks at asked) → (last : Naming) → Extends later last
       → (all : Children)
       → AddsPieces exploration.budgets.events rules box at (AreOfQuestion (model_of exploration) last box.value asked) found all

@@ -14,7 +14,7 @@ use Rattle.cs_terms.proofs.Products.{abs-product}
 use Rattle.cs_constraints.specs.Constraints.{Sets, set_of}
 use Rattle.cs_pieces.specs.Settled.{DependsOn, IsSettled, IsConstantAt}
 
--- a function that isn't level has different values at different numbers
+-- a function with a slope that isn't 0 has different values at different numbers
 values_differ : (slope at value one other : ℤ) → slope ≢ pos 0 → one ≢ other → affine slope at value one ≢ affine slope at value other
 values_differ slope at value one other steep apart same =
     let rise : ℤ = slope *ℤ (one -ℤ other) in
@@ -36,7 +36,7 @@ module _ (before : Sets) (guess : Option Sym) (term : Lin) (symbol : Sym) (is : 
   constant_is : (made : Lin) → made.sym ≡ None → (v : Valuation) → value_of v made ≡ made.value
   constant_is made none v = ap (λ (o : Option Sym). value_with v o made.slope made.at made.value) none
 
-  -- a level function
+  -- a constant function
   pub level_settled : (made : Lin) → made.sym ≡ None → made.value ≡ term.value → term.slope ≡ pos 0 → IsSettled before guess term made
   level_settled made none value level = record {
     values = λ v fits.
@@ -49,7 +49,7 @@ module _ (before : Sets) (guess : Option Sym) (term : Lin) (symbol : Sym) (is : 
       flat x value = omega (arith, ints)
 
   module _ (set : List Interval) (there : set_of before symbol.0 ≡ Some set) where
-    -- a function of a symbol with one number
+    -- a function of a symbol with only one number
     pub constant_settled : (only : ℤ) → IsOnly set only → (made : Lin) → IsConstantAt term only made → IsSettled before guess term made
     constant_settled only one made at = record {
       values = λ v fits.
@@ -58,7 +58,7 @@ module _ (before : Sets) (guess : Option Sym) (term : Lin) (symbol : Sym) (is : 
       over = none_over made at.no_symbol;
     }
 
-    -- a function that isn't level, of a symbol with two numbers
+    -- a function with a slope that isn't 0, of a symbol with two numbers
     pub term_settled : term.slope ≢ pos 0 → IsInhabited set → IsEmpty set ⊎ HasTwo set → IsSettled before guess term term
     term_settled steep some either = elim either [
       | inl empty ↦ absurd (true≢false (sym some.1 ∙ empty some.0))
@@ -80,7 +80,7 @@ module _ (before : Sets) (guess : Option Sym) (term : Lin) (symbol : Sym) (is : 
       }
     ]
 
--- an answer that is settled for what is the same
+-- an answer that is settled for equal arguments
 pub settled_as : {before sets : Sets} {one guess : Option Sym} {given term answer : Lin} → before ≡ sets → one ≡ guess → given ≡ term
     → IsSettled before one given answer → IsSettled sets guess term answer
 settled_as {before = before} {one = one} {guess = guess} {term = term} {answer = answer} same_sets same_guess same settled =

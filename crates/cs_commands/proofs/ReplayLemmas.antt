@@ -32,7 +32,7 @@ length-map f (x ∷ xs) = ap suc (length-map f xs)
 position-map : {X Y : Type 0} (p : Y → Bool) (f : X → Y) (xs : List X) → position p (map f xs) ≡ position (λ x. p (f x)) xs
 position-map p f xs = simp (prefix_len-map, length-map)
 
--- the entry is sought among the functions of the program
+-- the entry is searched among the functions of the program
 pub entry_among : (functions : List Function) (name : List ℕ)
     → position (is_entry name) (map routine functions) ≡ position (λ f. is_entry name (routine f)) functions
 entry_among functions name = position-map (is_entry name) routine functions
@@ -44,19 +44,19 @@ no_outcome status (Done returned) not_clean not_found is = absurd (not_clean is)
 no_outcome status (Fault kind place) not_clean not_found is = absurd (not_found is)
 no_outcome status (Over budget place) not_clean not_found is = absurd (not_clean is)
 
--- the line of the run answers the replay of the entry
+-- the line of the run is the answer to the replay of the entry
 pub answers_replay : (files : List (List ℕ)) (program : TypedProgram) (words : ReplayWords) (entry : ℕ) (status : Status) (text : List ℕ)
     → entry_of words.entry program ≡ Some entry → IsReplayOf files program words entry status text → IsReplayAnswer files program words status text
 answers_replay files program words entry NoEntry text found replay = no_outcome NoEntry replay.outcome (λ e. cc) (λ e. cc) replay.yields
 answers_replay files program words entry _ text found replay = (entry, found, replay)
 
--- the line says that there is no entry
+-- the line states that there is no entry
 pub refuses_entry : (files : List (List ℕ)) (program : TypedProgram) (words : ReplayWords) (status : Status) (text : List ℕ)
     → entry_of words.entry program ≡ None → status ≡ NoEntry → text ≡ codes "refused entry " ++ (words.entry ++ codes "\n")
     → IsReplayAnswer files program words status text
 refuses_entry files program words status text none is line = subst (λ s. IsReplayAnswer files program words s text) (sym is) (none, line)
 
--- a run that begins with no guesses, described by its line
+-- a run without initial guesses, described by its line
 pub replay_is : (files : List (List ℕ)) (program : TypedProgram) (words : ReplayWords) (entry number : ℕ) (guesses : List Guess) (outcome : Outcome)
     (log : Log) (status : Status) (text : List ℕ) → number ≡ entry → guesses ≡ []
     → RunGives program number (record { inputs = words.inputs; guesses = guesses }) words.budgets outcome log → text ≡ replay_line files outcome
@@ -70,7 +70,7 @@ replay_is files program words entry number guesses outcome log status text same 
   yields = yields;
 }
 
--- the entry that is found has a body
+-- the entry found has a body
 pub entry_has_body : (program : TypedProgram) (name : List ℕ) (entry : ℕ) → entry_of name program ≡ Some entry
     → (routine_of program entry).body ≡ None → ⊥
 entry_has_body program name entry found none =

@@ -22,7 +22,7 @@ sum-small x y h g = omega (arith, ints)
 pub difference-small : (n : ℕ) (x y : ℤ) → unsigned_abs x ≤ n → unsigned_abs y ≤ n → unsigned_abs (x -ℤ y) ≤ 2 * n
 difference-small n x y h g = omega (arith, ints)
 
--- a factor that isn't negative moves
+-- multiplication distributes over a sum
 distrib : (a b c : ℤ) → a *ℤ (b +ℤ c) ≡ a *ℤ b +ℤ a *ℤ c
 distrib a b c = *ℤ_comm a (b +ℤ c) ∙ add-*ℤ b c a ∙ ap (λ n. n +ℤ c *ℤ a) (*ℤ_comm b a) ∙ ap (λ n. a *ℤ b +ℤ n) (*ℤ_comm c a)
 

@@ -63,6 +63,6 @@ module _ (code : Code) (program : TypedProgram) (entry : ℕ) (budgets : Budgets
       All-weaker (Contains ends) (λ (end : End). HasFinding given end.outcome) (λ end among. of_outcome end.outcome (has_finding end among)) ends
       (All-contains_itself ends)
 
-  -- where nothing is listed, nothing was cut
+  -- if no cut is listed, nothing was cut
   pub all_of : (cuts : List Cut) → given.cuts.items ≡ cuts → (cuts ≡ [] → explored.cuts.items ≡ []) → ShowsAllEnds explored given
   all_of cuts same some = record { ends = all_shown; cuts = λ none. some (sym same ∙ none) }

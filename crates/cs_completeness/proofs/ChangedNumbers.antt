@@ -21,7 +21,7 @@ use Rattle.cs_state.specs.declared.asked.Asked.{Asked}
 use Rattle.cs_state.specs.Valuations.{input_of, is_input_at, guess_of}
 use Rattle.cs_witness.specs.Evidence.{Changes, is_input, is_guess, changed, changed_guess}
 
--- the valuation with another number for a symbol
+-- a valuation with another number for a symbol
 abbrev pub with_number : ℕ → ℤ → Valuation → Valuation
 with_number zero number v zero = number
 with_number zero number v (suc other) = v (suc other)
@@ -109,14 +109,14 @@ abbrev pub earlier : ℕ → List Guess → List Guess
 earlier event guesses = filter (λ (guess : Guess). nat_lt guess.event event) guesses
 
 module _ (names : List SymName) where
-  -- a symbol with a name that gets a number
+  -- a named symbol, and its new number
   pub record Move : Type 0 where
     pub symbol : ℕ
     pub name : SymName
     pub there : slice_get names symbol ≡ Some name
     pub number : ℤ
 
-  -- the valuation after each of them in turn, and the changes by names
+  -- the valuation after all moves, one after the other, and the changes by names
   abbrev pub after : List Move → Valuation → Valuation
   after [] v = v
   after (move ∷ moves) v = after moves (with_number move.symbol move.number v)
@@ -124,7 +124,7 @@ module _ (names : List SymName) where
   abbrev pub changes_of : List Move → Changes
   changes_of moves = map (λ (move : Move). (move.name, move.number)) moves
 
-  -- the symbol of a guess is named so
+  -- the symbol of a guess has the name of the guess
   abbrev pub IsNamedGuess : Asked → Type 0
   IsNamedGuess asked = slice_get names asked.guess.0 ≡ Some (GuessAt asked.event)
 

@@ -18,11 +18,11 @@ use Rattle.cs_suspects.specs.Suspected.{range_of, named_range}
 use Rattle.cs_witness.specs.Evidence.{Changes, AreCorners, of_right, of_left, of_one, of_both, ends_of, four_of}
 use Rattle.cs_completeness.proofs.ChangedNumbers.{with_number, number_there, number_elsewhere, Move, after, changes_of}
 
--- both valuations give the symbol, where there is one, the same number
+-- both valuations have the same number for the symbol, if there is one
 abbrev pub AgreeAt : Option Sym → Valuation → Valuation → Type 0
 AgreeAt symbol v w = (sym : Sym) → symbol ≡ Some sym → v sym.0 ≡ w sym.0
 
--- if the two ranges are of one symbol, they are one
+-- two ranges of one symbol are equal
 abbrev pub HasOneRange : Asked → Type 0
 HasOneRange asked = (sym : Sym) → asked.left.sym ≡ Some sym → asked.right.sym ≡ Some sym → asked.ends.left ≡ asked.ends.right
 
@@ -39,11 +39,11 @@ no_name : (found : Option SymName) → found ≡ None → (name : SymName) → f
 no_name found none name is = cc
 
 module _ (names : Naming) where
-  -- what has no name
+  -- the symbol has no name
   abbrev pub IsUnnamed : Option Sym → Type 0
   IsUnnamed symbol = (other : Sym) → symbol ≡ Some other → ¬ IsNamed names other
 
-  -- a range is that of a symbol with a name, where there is one
+  -- the range belongs to the symbol, if this has a name
   pub data IsOf (symbol : Option Sym) (ends : Interval) : Option OperandRange → Type 0 where
     without : IsUnnamed symbol → IsOf symbol ends None
     with_range : (own : Sym) (range : OperandRange) → symbol ≡ Some own → slice_get names.syms own.0 ≡ Some range.symbol → range.least ≡ ends.low
@@ -67,13 +67,13 @@ module _ (names : Naming) where
     abbrev moved : Moves → Valuation
     moved moves = after names.syms moves v
 
-    -- the symbols of the operands have no names, or a valuation gives them the numbers of one of these corners
+    -- the symbols of the operands have no names, or their numbers are those of one of these corners
     abbrev pub IsLikeOne : List Moves → Valuation → Type 0
     IsLikeOne corners w =
         ((moves : Moves) × Contains corners moves × AgreeAt asked.left.sym w (moved moves) × AgreeAt asked.right.sym w (moved moves))
         ⊎ (IsUnnamed asked.left.sym × IsUnnamed asked.right.sym)
 
-    -- what has no name keeps its number
+    -- symbols without names keep their numbers
     abbrev pub KeepsUnnamed : Valuation → Type 0
     KeepsUnnamed w = (other : Sym) → ¬ IsNamed names other → w other.0 ≡ v other.0
 
@@ -95,7 +95,7 @@ module _ (names : Naming) where
       own_named : IsNamed names own
       own_named = (range.symbol, there)
 
-      -- an operand has no symbol with a name, or this one with these ends
+      -- an operand's symbol has no name, or is this one with these ends
       abbrev IsOverOne : Option Sym → Interval → Type 0
       IsOverOne symbol ends = IsUnnamed symbol ⊎ ((symbol ≡ Some own) × (range.least ≡ ends.low) × (range.greatest ≡ ends.high))
 
@@ -259,7 +259,7 @@ module _ (names : Naming) where
         each = λ w ends. among w (ends.left first is_first (left.symbol, there)) (ends.right second is_second (right.symbol, here));
       }
 
-    -- all corners have moves
+    -- each list of corners has moves
     pub corners_move : (left right : Option OperandRange) → IsOf asked.left.sym asked.ends.left left → IsOf asked.right.sym asked.ends.right right
         → HasOneRange asked → (changes : List Changes) → AreCorners left right changes → HasMoves changes
     corners_move None None (without none) (without nothing) one_range _ of_right =
@@ -281,7 +281,7 @@ module _ (names : Naming) where
         (sym there ∙ ap (slice_get names.syms) same ∙ there')) in
         over_two s t left right is is' there there' differ low high low' high'
 
-    -- and there are some
+    -- and there is such a list
     pub some_corners : (left right : Option OperandRange) → IsOf asked.left.sym asked.ends.left left → IsOf asked.right.sym asked.ends.right right
         → (changes : List Changes) × AreCorners left right changes
     some_corners None right is is' = (ends_of right, of_right)

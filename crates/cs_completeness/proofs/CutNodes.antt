@@ -140,7 +140,7 @@ module _ (code : Code) (program : TypedProgram) (limits : Budgets) (given : Entr
         real_at code program given.entry budgets names rules rows ends exact lowered body.0 body.1 guesses number (slice_get rows number) refl row.0 row.1;
   }
 
--- all cuts are for want of nodes
+-- a cut of the nodes
 pub nodes_of : (cut : Cut) → IsNodes cut → (nodes : ℕ) × (cut ≡ Nodes nodes)
 nodes_of (Nodes nodes) is = (nodes, refl)
 nodes_of (Splits at count) is = absurd is

@@ -36,7 +36,7 @@ use Rattle.cs_findings.specs.EveryRun.{HasFinding, ReportsEveryRun}
 no_cut : (cut : Cut) → Contains [] cut → ⊥
 no_cut cut (k, within, at) = omega (arith, within)
 
--- where nothing is cut, no access is
+-- if nothing is cut, no access is
 nothing_is_cut : (cuts : List Cut) → cuts ≡ [] → (at : Place) → ¬ IsCutAt cuts at
 nothing_is_cut cuts none at = λ cut. no_cut (Splits at cut.0) (subst (λ (all : List Cut). Contains all (Splits at cut.0)) none cut.1)
 
@@ -52,13 +52,13 @@ passes_none cuts none (one ∷ steps) = (elsewhere cuts none one.pending, passes
 all_nodes : (cuts : List Cut) → cuts ≡ [] → HasAllNodes cuts
 all_nodes cuts none nodes = λ cut. no_cut (Nodes nodes) (subst (λ (all : List Cut). Contains all (Nodes nodes)) none cut)
 
--- an end says of a fault and of a budget what the run says
+-- an end has the same fault or budget as the run
 found_by_end : (given : EntryResult) (outcome ended : Outcome) → ended ≡ end_of outcome → HasFinding given ended → HasFinding given outcome
 found_by_end given (Done returned) ended is found = tt
 found_by_end given (Fault kind at) ended is found = subst (HasFinding given) is found
 found_by_end given (Over budget at) ended is found = subst (HasFinding given) is found
 
--- a function that works with integers alone is such an entry, if its code works so too
+-- an integer function with integer code is an integer entry
 pub integer_entry : (code : Code) (program : TypedProgram) (function : ℕ) → IsIntegerFunction program function
     → HasIntegerCode code program function → IsIntegerEntry code program function
 integer_entry code program function is has =

@@ -49,7 +49,7 @@ use Rattle.cs_completeness.proofs.CornerMoves.{HasOneRange, IsUnnamed, is_of, Ke
 use Rattle.cs_completeness.proofs.SameOperands.{operands_alike, no_ground}
 use Rattle.cs_completeness.proofs.SameParameters.{AreAlike, comes_alike}
 
--- an element of a list's image, by its place
+-- an element of a list's image, by its index
 pub from_place : {A B : Type 0} (f : A → B) (xs : List A) (place : ℕ) (y : B) → slice_get (map f xs) place ≡ Some y
     → (x : A) × (slice_get xs place ≡ Some x) × (y ≡ f x)
 from_place {A = A} {B = B} f xs place y is = by (slice_get xs place) refl
@@ -87,7 +87,7 @@ module _ (code : Code) (program : TypedProgram) (entry : ℕ) (budgets : RunBudg
       ap (map (λ (guess : SuspectedGuess). guess.guess)) guesses
       ∙ maps_once (suspected names v) (λ (guess : SuspectedGuess). guess.guess) (guess_of v) (λ asked. refl) all
 
-  -- a run of the suspect is that of the valuation
+  -- a run of the suspect is alike to the valuation's
   pub alike : (run : ProgramRun) → IsRunOf program entry suspect run → AreAlike code program entry budgets lowered works (run_at names state v) run
   alike run is = record {
     inputs = λ path parameter.
@@ -99,7 +99,7 @@ module _ (code : Code) (program : TypedProgram) (entry : ℕ) (budgets : RunBudg
     all_named : All (IsNamedGuess names.syms) all
     all_named = All-weaker (Contains all) (IsNamedGuess names.syms) named all (All-contains_itself all)
 
-    -- and with changes it is that of the valuation after moves
+    -- and with changes it is alike to that of the valuation after the moves
     changed_alike : (moves : List (Move names.syms)) (event : ℕ) (run other : ProgramRun) → IsRunOf program entry suspect run
         → IsChanged program entry (changes_of names.syms moves) event run other
         → AreAlike code program entry budgets lowered works (before event (run_at names state (after names.syms moves v))) other
@@ -144,7 +144,7 @@ module _ (code : Code) (program : TypedProgram) (entry : ℕ) (budgets : RunBudg
         abbrev HasNone : Type 0
         HasNone = IsUnnamed names asked.left.sym × IsUnnamed names asked.right.sym
 
-        -- the operands under each valuation with ends are among these
+        -- the operands under each valuation with ends are among these pairs
         among_pairs : (w : Valuation) → IsAtEnds names asked v w → Contains pairs (operands_under cornered.meant w) ⊎ HasNone
         among_pairs w ends = elim (has.each w ends) [
           | inl (moves, there, left, right) ↦
@@ -154,7 +154,7 @@ module _ (code : Code) (program : TypedProgram) (entry : ℕ) (budgets : RunBudg
           | inr none ↦ inr none
         ]
 
-        -- what has no name keeps its number; so without names all operands are the same
+        -- symbols without names keep their numbers; so if no operand has a named symbol, all operands are the same
         same_everywhere : HasNone → (w x : Valuation) → KeepsUnnamed names once asked v w → KeepsUnnamed names once asked v x
             → operands_under cornered.meant x ≡ operands_under cornered.meant w
         same_everywhere none w x kept also =
@@ -207,7 +207,7 @@ module _ (code : Code) (program : TypedProgram) (entry : ℕ) (budgets : RunBudg
     -- all guesses
     module _ (cornered : (asked : Asked) → Contains all asked → IsCornered program entry budgets names state asked v)
         (one_range : (asked : Asked) → Contains all asked → HasOneRange asked) (in_order : IsInEventOrder state) where
-      -- the corners of a guess, whatever list has them
+      -- each list of a guess's corners has moves
       have_moves : (asked : Asked) → Contains all asked → (changes : List Changes)
           → AreCorners (suspected names v asked).left (suspected names v asked).right changes → HasMoves names once asked v changes
       have_moves asked among changes are =

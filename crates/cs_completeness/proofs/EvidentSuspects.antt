@@ -63,7 +63,7 @@ use Rattle.cs_completeness.proofs.SameParameters.{reads_none, gives_alike}
 solution_fits : (sets : Sets) (v : Valuation) → IsSolution sets v → Fits v sets
 solution_fits sets v solution symbol set is = (solution.declared symbol set is).member
 
--- two ranges of one symbol under the same sets are one
+-- two ranges of one symbol in the same sets are equal
 one_least : (set : List Interval) (one other : ℤ) → IsLeast set one → IsLeast set other → one ≡ other
 one_least set one other first second =
     let upper = first.least other second.member in
@@ -87,7 +87,7 @@ one_range asked sets ranges own left right =
     (subst (λ (set : List Interval). IsGreatest set asked.ends.left.high) same one.3) other.3 in
     λ i. record { low = low i; high = high i }
 
--- what proceeds, and then ends, runs to its end
+-- steps of a run, and then its end, are a whole run
 module _ {M : Type 0} (step : M → Act M) (setting : Setting) where
   runs_to : {left last : Act M} {log before : Log} {steps : List Step} → Proceeds step setting left log steps last before → (outcome : Outcome) (end : Log)
       → first_of setting before last ≡ Ended outcome end → RunsTo step setting (first_of setting log left) steps outcome end
@@ -95,7 +95,7 @@ module _ {M : Type 0} (step : M → Act M) (setting : Setting) where
   runs_to (goes_on silent rest) outcome end is = silently silent (runs_to rest outcome end is)
   runs_to (shows_one shown rest) outcome end is = shows shown (runs_to rest outcome end is)
 
--- an end that is a fault or a budget is what the run ends with
+-- the outcome of a run is that of its end, if this is a fault or a budget
 found : (outcome : Outcome) → IsFinding (end_of outcome) → end_of outcome ≡ outcome
 found (Done returned) finding = absurd finding
 found (Fault kind at) finding = refl
@@ -145,7 +145,7 @@ module _ (code : Code) (program : TypedProgram) (entry : ℕ) (budgets : RunBudg
         comes.steps comes.outcome comes.log
     runs = runs_to (code_step code program budgets) setting comes.ends.proceeds comes.outcome comes.log comes.ends.ends
 
-    -- the run of the valuation ends as the end says, after as many events as its state counts
+    -- the run of the valuation has the end's outcome, after as many events as its state counts
     gives : RunGives program entry run budgets comes.outcome comes.log
     gives =
         lowered.lowered.runs.ends_only entry lowered.body run budgets comes.outcome comes.log lowered.has_body
@@ -172,7 +172,7 @@ module _ (code : Code) (program : TypedProgram) (entry : ℕ) (budgets : RunBudg
           reads_none code program entry budgets lowered works other outcome log ended,
         )
 
-    -- what is said of its guesses
+    -- what is noted about its guesses is true
     asked_along : (asked : Asked) → Contains all asked → IsAskedAlong code program entry budgets names rows state own.chain asked
     asked_along = guessed.asked.of_ends number end own.chain there own.leads
 

@@ -45,7 +45,7 @@ module _ (state : State) (in_order : IsInEventOrder state) where
       subst (IsStrictlySortedBy nat_cmp) (same_events (finite.entries state.asked) (all_found state.asked))
       (rising_numbers (finite.entries state.asked) keyed (finite.entries_sorted state.asked))
 
-  -- a guess that is listed later comes later
+  -- a guess that is listed later has a later event
   pub comes_later : (number later : ℕ) (one other : Asked) → number < later → slice_get (finite.values state.asked) number ≡ Some one
       → slice_get (finite.values state.asked) later ≡ Some other → one.event < other.event
   comes_later number later one other before here there =

@@ -19,13 +19,13 @@ use Rattle.cs_events.specs.Runs.{Setting, Log, Performed, Continues, Finishes, p
 use Rattle.cs_meaning.specs.Access as access
 use Rattle.cs_meaning.specs.Operators as operators
 
--- a choice of two
+-- what holds for both branches holds for a conditional
 pub either : {A : Type 0} (P : A → Type 0) (b : Bool) (one other : A) → P one → P other → P (if b then one else other)
 either P true one other first second = first
 either P false one other first second = second
 
 module _ {S : Type 0} (Is : S → Type 0) where
-  -- an act reads no input, and each state in which the machine may go on is such a state
+  -- an act that reads no input, after which the machine only continues with states for which `Is` holds
   pub data Keeps : Act S → Type 0 where
     goes : {next : S} → Is next → Keeps (Goes next)
     stops : {outcome : Outcome} → Keeps (Stops outcome)
@@ -33,7 +33,7 @@ module _ {S : Type 0} (Is : S → Type 0) where
     reaches : {at : Place} {object : Object} {offset : ℤ} {act : Act S} → Keeps act → Keeps (Reaches at object offset act)
     touches : {touch : Touch} {act : Act S} → Keeps act → Keeps (Touches touch act)
 
-  -- performing it reads nothing
+  -- performing such an act reads nothing
   abbrev pub HasRead : List Lookup → Performed S → Type 0
   HasRead read (Continues next log) = Is next × (log.read ≡ read)
   HasRead read (Finishes outcome log) = log.read ≡ read

@@ -17,7 +17,7 @@ use Rattle.cs_meaning.specs.Memory.{UnsetFill, Block, Memory, Holds, found_in, c
 use Rattle.cs_meaning.specs.Steps.{received, with_received, static_memory, parameter_path}
 use Rattle.cs_completeness.proofs.InputFree.{either}
 
--- pointers point to locals, and no struct is an operand
+-- pointers point to locals, and no operand is a struct
 abbrev pub IsLocal : Object → Type 0
 IsLocal (LocalObject frame declaration) = Unit {0}
 IsLocal other = ⊥
@@ -31,7 +31,7 @@ IsPlainOperand (Scalar cell) = IsPlainCell cell
 IsPlainOperand (Whole cells) = ⊥
 IsPlainOperand NoOperand = Unit {0}
 
--- what a local holds was set to such a cell, or never set
+-- each cell of a local was set to such a value, or never set
 pub record IsPlainBlock (block : Block) : Type 0 where
   pub fill : block.fill ≡ UnsetFill
   pub written : (offset : ℕ) (cell : Cell) → block.written offset ≡ Some cell → IsPlainCell cell
@@ -83,7 +83,7 @@ none_some x is = cc
 pub refilled_block : (block : Block) → IsPlainBlock block → IsPlainBlock (refill UnsetFill block)
 refilled_block block before = record { fill = refl; written = λ at other is. none_some other is }
 
--- what is found in a local
+-- what a local has at an offset
 pub found_plain : (program : TypedProgram) (object : Object) (there : Option Block) → IsPlainThere there → (offset : ℕ)
     → (cell : Cell) × (found_in program object there offset ≡ Holds cell) × IsPlainCell cell
 found_plain program object None plain offset = (UnsetCell, refl, tt)
@@ -94,7 +94,7 @@ found_plain program object (Some block) plain offset = by (block.written offset)
     by (Some cell) is = (cell, rw is refl, plain.written offset cell is)
     by None is = (UnsetCell, rw is (rw plain.fill refl), tt)
 
--- a pointer that is plain names a local
+-- a plain pointer points to a local
 pub local_named : {A : Type 0} (P : A → Type 0) (object : Object) (f : Object → A) → IsLocal object
     → ((frame declaration : ℕ) → P (f (LocalObject frame declaration))) → P (f object)
 local_named P (LocalObject frame declaration) f local each = each frame declaration

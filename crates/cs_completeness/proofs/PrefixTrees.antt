@@ -11,7 +11,7 @@ use Rattle.cs_exactness.specs.FoundFaults.{HasChild}
 use Rattle.cs_exactness.proofs.Chains.{first_chain, one_chain}
 use Rattle.cs_findings.specs.OutOfNodes.{IsPrefixTree}
 
--- what begins as another list does, and has one element at its end, is that list with this one, or begins so without it
+-- if xs with one element at its end begins with ys and y, then xs is ys, or xs begins with ys and y
 split_last : {A : Type 0} (xs : List A) (x : A) (ys : List A) (y : A) (more : List A) → xs ++ x ∷ [] ≡ ys ++ y ∷ more
     → (xs ≡ ys) ⊎ ((rest : List A) × (xs ≡ ys ++ y ∷ rest))
 split_last [] x [] y more e = inl refl
@@ -35,7 +35,7 @@ nothing_more xs x more e =
     omega (arith, none, all)
 
 module _ (rows : List Row) where
-  -- a row on the way to another one has a child
+  -- a row whose chain is the beginning of a longer one has a child
   pub has_child : ChainsDiffer rows → {other : ℕ} {longer : List Event} → IsChain rows other longer → (number : ℕ) (chain : List Event)
       → IsChain rows number chain → (event : Event) (more : List Event) → longer ≡ chain ++ event ∷ more → HasChild rows number
   has_child differ (first there none) number chain leads event more is = absurd (nothing_more chain event more is)
@@ -47,7 +47,7 @@ module _ (rows : List Row) where
         | inr rest ↦ has_child differ onward number chain leads event rest.0 rest.1
       ]
 
-  -- a number that was guessed on the way to a row was guessed at one of the row's events
+  -- a guess along the chain of a row is at one of the chain's events
   pub guessed_within : {number at : ℕ} {sym : _} → IsGuessedAlong rows number at sym → (chain : List Event) → IsChain rows number chain
       → at ≤ length chain
   guessed_within (here {events = events} there guessed leads) chain other =
@@ -61,7 +61,7 @@ module _ (rows : List Row) where
       omega (arith, fewer, all)
 
   module _ (last : ℕ) (events : ℕ → List Event) (leads : (number : ℕ) → number ≤ last → IsChain rows number (events number)) where
-    -- a chain is one that comes before it, with one event at its end
+    -- a chain is an earlier one, with one event at its end
     grown : {number : ℕ} {chain : List Event} → IsChain rows number chain → 0 < number → number ≤ last
         → (earlier : ℕ) × (event : Event) × (earlier < number) × (chain ≡ events earlier ++ event ∷ [])
     grown (first there none) some within = absurd (omega (arith, some))

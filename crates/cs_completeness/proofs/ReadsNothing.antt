@@ -49,7 +49,7 @@ module _ (code : Code) (program : TypedProgram) (entry : ℕ) where
   abbrev count : ℕ
   count = count_of_locals program entry
 
-  -- the entry's frame is the only one, what is to be done works with integers alone, and operands and locals are plain
+  -- the entry's frame is the only one, its operations work only with integers, and operands and locals are plain
   record IsPlain (m : CodeState) : Type 0 where
     function : m.frame.function ≡ entry
     alone : m.callers ≡ []

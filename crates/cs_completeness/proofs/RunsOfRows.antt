@@ -37,7 +37,7 @@ use Rattle.cs_guesses.proofs.ProgramRuns.{same_inputs}
 use Rattle.cs_completeness.proofs.PrefixTrees.{guessed_within}
 
 module _ {M : Type 0} (step : M → Act M) (setting : Setting) where
-  -- a run that ends passes first what it has passed on the way
+  -- the steps of a run that ends begin with those that it has passed before
   passed_first : {first : First M} {steps all : List Step} {left : Act M} {log end : Log} {outcome : Outcome} → LeavesAfter step setting first steps left log
       → RunsTo step setting first all outcome end → (more : List Step) × (all ≡ steps ++ more)
   passed_first (now e) (ends f) = cc
@@ -64,7 +64,7 @@ module _ {M : Type 0} (step : M → Act M) (setting : Setting) where
 
 module _ (code : Code) (program : TypedProgram) (entry : ℕ) (budgets : RunBudgets) (names : Naming) (rows : List Row)
     (lowered : IsLowered code program) (body : Statement) (has_body : (routine_of program entry).body ≡ Some body) where
-  -- the steps of the code's run that ends, after those that it has passed on the way
+  -- the steps of the code's run that ends, after those that it has passed before
   ends_after : (run : ProgramRun) (steps all : List Step) (left : Act CodeState) (log end : Log) (outcome : Outcome)
       → HasLeft code program entry budgets (setting_of program run budgets) steps left log
       → RunsTo (code_step code program budgets) (setting_of program run budgets)
@@ -98,7 +98,7 @@ module _ (code : Code) (program : TypedProgram) (entry : ℕ) (budgets : RunBudg
     budgets = budgets;
   }
 
-  -- passes the chain of a row that it fits, and guesses nothing after it
+  -- the run of a valuation that fits a row passes the row's chain, and guesses nothing after it
   pub passes_along : (number : ℕ) (row : Row) (exact : IsExactRow code program entry budgets names rows number row)
       → RecordsGuesses rows number row.state.value
       → PassesAlong program entry budgets (run_at names row.state.value exact.possible.0) exact.chain

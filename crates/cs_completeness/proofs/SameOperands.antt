@@ -51,7 +51,7 @@ module _ (v w : Valuation) where
   operands_alike asks.Sum left right meant is one other = subst HasSame (sym is.1) (both_alike left right one other)
   operands_alike asks.Difference left right meant is one other = subst HasSame (sym is.1) (both_alike left right one other)
 
--- no ground
+-- equal operands are no ground
 itself : (n : ℤ) → int_eq n n ≡ true
 itself n = (Decides-int_eq n n).1 refl
 
@@ -100,7 +100,7 @@ same_right mine (One first) same = ap (λ (pair : Pair). not (int_eq pair.1 mine
 same_right mine (Two first second) (same, also) =
     (λ i. not (int_eq (same i).1 mine.1) || not (int_eq (also i).1 mine.1)) ∙ ap (λ (b : Bool). not b || not b) (itself mine.1)
 
--- where all operands are those of the operation, there is no ground
+-- if all operands are those of the operation, there is no ground
 pub no_ground : (model : DataModel) (operation : Operation) (others : Others Pair) → AllOthers (λ (pair : Pair). pair ≡ operands operation) others
     → IsTrue (has_ground model operation others) → ⊥
 no_ground model operation others same there =

@@ -38,7 +38,7 @@ no_path read none path there =
 
 module _ (code : Code) (program : TypedProgram) (entry : ℕ) (budgets : RunBudgets) (lowered : IsLoweredEntry code program entry)
     (works : IsIntegerEntry code program entry) where
-  -- a run reads nothing but its parameters
+  -- a run reads only its parameters
   pub reads_none : (run : ProgramRun) (outcome : Outcome) (log : Log) → RunGives program entry run budgets outcome log → log.read ≡ []
   reads_none run outcome log given =
       reads_nothing code program entry works run budgets outcome log
@@ -49,7 +49,7 @@ module _ (code : Code) (program : TypedProgram) (entry : ℕ) (budgets : RunBudg
     pub inputs : (path : Path) → IsParameter program entry path → number_at one.inputs path ≡ number_at other.inputs path
     pub guesses : one.guesses ≡ other.guesses
 
-  -- so they end alike, with one log
+  -- so they end alike, with the same log
   pub gives_alike : (one other : ProgramRun) → AreAlike one other → (outcome : Outcome) (log : Log) → RunGives program entry one budgets outcome log
       → RunGives program entry other budgets outcome log
   gives_alike one other same outcome log given =
@@ -60,7 +60,7 @@ module _ (code : Code) (program : TypedProgram) (entry : ℕ) (budgets : RunBudg
         | inr read ↦ absurd (no_path log.read (reads_none one outcome log given) path read)
       ]))
 
-  -- and where one of them comes, the other does
+  -- and reach the same positions
   pub comes_alike : (one other : ProgramRun) → AreAlike one other
       → (events : List Event) (pending : Pending) → Comes program entry budgets one events pending
       → Comes program entry budgets other events pending

@@ -19,7 +19,7 @@ decide (suc m) (suc n) = elim (decide m n) [
   | inr d ↦ inr (λ e. d (omega arith))
 ]
 
--- a number of a set that there may be
+-- a number of a set, if there is one
 abbrev pick : (o : Option (List Interval)) → ((set : List Interval) → o ≡ Some set → IsInhabited set) → ℤ
 pick None h = pos 0
 pick (Some set) h = (h set refl).0
@@ -29,7 +29,7 @@ pick-in : (o : Option (List Interval)) (h : (set : List Interval) → o ≡ Some
 pick-in None h set e = absurd (cc)
 pick-in (Some s) h set e = subst (λ (z : List Interval). contains z (pick (Some s) h) ≡ true) (same_Some s set e) (h s refl).1
 
--- where each symbol has a number, some valuation fits
+-- if each symbol has a number, some valuation fits
 pub fitting : (sets : Sets) → AreInhabited sets → (v : Valuation) × Fits v sets
 fitting sets h = (λ s. pick (set_of sets s) (h s), λ s set e. pick-in (set_of sets s) (h s) set e)
 
@@ -149,7 +149,7 @@ narrowed_answer sets term set kept s answer over declared numbers m = by answer 
     by None (Some range) e m = ruled_out sets term set range kept s over e (numbers range e) m
     by (Some after) (Some range) e m = keeps sets term set range kept s over e (numbers range e) after m.0 m.1
 
--- each symbol has a number after one was narrowed to a set with one
+-- if a symbol is narrowed to a nonempty set, each symbol still has a number
 pub narrowed_inhabited : (sets after : Sets) (s : ℕ) (set : List Interval) → AreInhabited sets → IsInhabited set → IsNarrowed sets s set after
     → AreInhabited after
 narrowed_inhabited sets after s set h i narrowed other found e = elim (decide other s) [

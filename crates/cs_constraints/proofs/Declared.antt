@@ -41,7 +41,7 @@ set_of-elsewhere sets s other set differ =
     differ (ap (λ (k : ℕ × ℕ). k.0) (key_cmp_exact (other, 0) (s, 0) (is_eq-Equal (key_cmp (other, 0) (s, 0)) t)))) in
     get-insert key_cmp_total sets (s, 0) set (other, 0) ∙ ap (λ b. cond b (Some set) (set_of sets other)) apart
 
--- each symbol still has a number where the set that was declared has one
+-- each symbol still has a number if the declared set isn't empty
 inhabited-insert : (sets : Sets) (s : ℕ) (set : List Interval) → AreInhabited sets → IsInhabited set → AreInhabited (map.insert sets (s, 0) set)
 inhabited-insert sets s set h i other found e =
     by (eq_by_cmp key_cmp (other, 0) (s, 0)) (sym (get-insert key_cmp_total sets (s, 0) set (other, 0)) ∙ e)
@@ -68,7 +68,7 @@ once_or_later true true v d = refl
 once_or_later true false v d = refl
 once_or_later false rest v d = refl
 
--- symbols that are declared at once are declared one by one
+-- declaring several symbols at once declares them one by one
 pub set_of-keyed : (syms : List Sym) (set : List Interval) (sets : Sets) (s : ℕ)
     → set_of (insert_all sets (keyed syms set)) s ≡ cond (has_sym syms s) (Some set) (set_of sets s)
 set_of-keyed [] set sets s = refl

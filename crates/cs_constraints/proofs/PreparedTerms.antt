@@ -19,7 +19,7 @@ use Rattle.cs_constraints.specs.Constraints.{Sets, set_of, Fits, HasNoSet, IsSet
 use Rattle.cs_constraints.specs.Prepared.{HasIntegers, IsCollapsed, IsMoved, IsPrepared, IsPreparedOver, IsSeenFromLeast}
 use Rattle.cs_constraints.proofs.Assuming.{value_of-symbol}
 
--- the same function seen from another number
+-- the same function, given at another number
 pub seen_from : (term : Lin) (at value x : ℤ) → IsTerm term → value ≡ affine term.slope term.at term.value at
     → value_with (λ s. x) term.sym term.slope at value ≡ value_at term x
 seen_from term at value x h e =
@@ -43,7 +43,7 @@ value_kept sets term made range v own (inr h) fits =
     value_of-symbol v made own.sym (h.function.symbol ∙ own.symbol_is) ∙ h.function.values (v own.sym.0)
     ∙ sym (value_of-symbol v term own.sym own.symbol_is)
 
--- the term itself, where no set is known of its symbol
+-- the term itself is prepared, if its symbol has no set
 pub none_prepared : (sets : Sets) (term : Lin) → IsTerm term → HasNoSet sets term.sym → HasIntegers sets term → IsPrepared sets term
 none_prepared sets term h none i = record {
   is_term = h;
@@ -105,11 +105,11 @@ module _ (sets : Sets) (term made : Lin) (range : List Interval) (h : IsTerm ter
   over_prepared (inl c) = collapsed_prepared c
   over_prepared (inr m) = moved_prepared m
 
--- a set has one least number
+-- a set has only one least number
 one_least : (set : List Interval) (x y : ℤ) → IsLeast set x → IsLeast set y → x ≡ y
 one_least set x y a b = omega (arith, ints, a.least y b.member, b.least x a.member)
 
--- prepared terms over the same symbol are seen from the same number
+-- prepared terms over the same symbol are given at the same number
 seen_together : (sets : Sets) (left right : Lin) → IsPrepared sets left → IsPrepared sets right → AreSeenTogether left right
 seen_together sets left right l r one = by left.sym right.sym refl refl one
   where

@@ -57,7 +57,7 @@ module _ (sets : Sets) (ends : AllEnds sets) (left right : Lin) (l : IsOperand s
     abbrev mine : Pair
     mine = pair_under left right v
 
-    -- the pair at the corner where each operand that can differ does
+    -- the pair of operands at the corner where each operand that can differ does
     abbrev there : Others Pair
     there = theirs sets ends left right l r v
 
@@ -81,7 +81,7 @@ module _ (sets : Sets) (ends : AllEnds sets) (left right : Lin) (l : IsOperand s
           right_apart = below_apart _ _ b.order;
         })
 
-    -- where some operand isn't constant
+    -- some operand isn't constant
     pub some_differs : ¬ AreFixed sets left right → HasSome sets left right v (λ others. either_differs mine others)
     some_differs n = by_other (λ others. either_differs mine others) (either (one_movable n))
 
@@ -121,7 +121,7 @@ module _ (sets : Sets) (ends : AllEnds sets) (left right : Lin) (l : IsOperand s
             (or_second (right_differs mine there) _ (and_both _ _ (left_moves sets ends left right l r v a) e))
         by (inl g) false e = absurd (o (g, e))
 
-    -- all operators. Whether the quotient is far is any truth here
+    -- all operators. `far` may be any truth here
     pub binary : (op : BinOp) (far : Bool) → ¬ AreFixed sets left right → ¬ (IsFollowedNear sets op left right × (far ≡ false))
         → HasSome sets left right v (λ others. binary_ground op far mine others)
     binary Add far n o = sum far n o

@@ -27,7 +27,7 @@ pub of_two : (sets : Sets) (left right : Lin) (v : Valuation) (test : Others Pai
     → HasTwo sets left right v (λ first second. test (Two first second)) → HasSome sets left right v test
 of_two sets left right v test h = record { others = Two h.first h.second; corners = (h.first_is, h.second_is); passed = h.passed }
 
--- two corners that pass one test pass another one
+-- two corners that pass a test pass a weaker one
 pub weaker : (sets : Sets) (left right : Lin) (v : Valuation) (test other : Pair → Pair → Bool)
     → ((first second : Pair) → test first second ≡ true → other first second ≡ true) → HasTwo sets left right v test
     → HasTwo sets left right v other

@@ -22,13 +22,13 @@ use Rattle.cs_corners.proofs.Ends.{AllEnds}
 use Rattle.cs_corners.proofs.Partners.{pair_under, tested, met}
 use Rattle.cs_corners.proofs.Terms.{IsStretched, stretched}
 
--- what the ends of a number don't decide
+-- the first of two truths holds, or the second, or neither
 undecided : {P : Type 0} (a b : Bool) → (a ≡ true → P) → (b ≡ true → P) → (a ≡ false → b ≡ false → P) → P
 undecided true b f g h = f refl
 undecided false true f g h = g refl
 undecided false false f g h = h refl refl
 
--- what a comparison of two numbers is where their difference lies on a side of 0
+-- a comparison of two numbers, by the sign of their difference
 less_is : (x y : ℤ) → int_le (pos 0) (x -ℤ y) ≡ false → compares Less x y ≡ true
 less_is x y e = grind (arith, ints)
 
@@ -116,7 +116,7 @@ module _ (sets : Sets) (ends : AllEnds sets) (left right : Lin) (l : IsOperand s
         right_apart = λ e. below_apart _ _ b.order (sym e);
       }) x here there)
 
-  -- the same of the sum
+  -- the same for the sum
   by_sum : (test : Pair → Bool) (x : Bool) → test (left_low, right_low) ≡ x → test (left_high, right_high) ≡ not x
       → HasSome sets left right v (λ others. are_spread mine others && truth_differs test mine others)
   by_sum test x here there =

@@ -160,7 +160,7 @@ module _ (sets : Sets) (ends : AllEnds sets) (s : Sym) (set : List Interval) (kn
   pub high_is_end : IsEnd sets s (ends s.0).high
   high_is_end = record { set = set; known = known; at_end = inr ((ends s.0).greatest set known) }
 
--- an end is the least or the greatest number of the symbol's set, of which there is one each: for those who noted these
+-- an end is the least or the greatest number of the symbol's set, and there is one of each: for those who have noted them
 pub which_end : (sets : Sets) (s : Sym) (set : List Interval) (low high number : ℤ) → set_of sets s.0 ≡ Some set → IsLeast set low
     → IsGreatest set high
     → IsEnd sets s number → (number ≡ low) ⊎ (number ≡ high)

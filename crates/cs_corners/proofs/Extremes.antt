@@ -25,14 +25,14 @@ is_at_most x y h = grind (arith, ints)
 pub is_below : (x y : ℤ) → x <ℤ y → int_lt x y ≡ true
 is_below x y h = grind (arith, ints)
 
--- of three numbers one isn't above 0, one isn't below it, and these two differ
+-- of some numbers one is at most 0, one is at least 0, and these two differ
 pub meets : (least greatest low high : ℤ) → least ≤ℤ low → high ≤ℤ greatest → low ≤ℤ pos 0 → pos 0 ≤ℤ high → low <ℤ high
     → ((int_le least (pos 0) && int_le (pos 0) greatest) && int_lt least greatest) ≡ true
 meets least greatest low high l g under over apart =
     and_both _ _ (and_both _ _ (is_at_most least (pos 0) (omega (arith, ints))) (is_at_most (pos 0) greatest (omega (arith, ints))))
     (is_below least greatest (omega (arith, ints)))
 
--- products of numbers that aren't below 0 grow with them
+-- products of numbers from 0 grow with these
 pub product_grows : (a b m n : ℤ) → pos 0 ≤ℤ a → a ≤ℤ m → pos 0 ≤ℤ b → b ≤ℤ n → (a *ℤ b) ≤ℤ (m *ℤ n)
 product_grows (negsuc a) b m n la ha lb hb = absurd (omega (arith, ints, la))
 product_grows (pos a) (negsuc b) m n la ha lb hb = absurd (omega (arith, ints, lb))

@@ -23,7 +23,7 @@ is_over (Some t) s = elim (eqb_tells t.0 s.0) [
 ]
 
 module _ (IsMoved : Sym → Type 0) (which : (s : Sym) → IsMoved s ⊎ (¬ IsMoved s)) (numbers : ℕ → ℤ) (v : Valuation) where
-  -- the symbols that are moved have these numbers, and all others what they had
+  -- moved symbols have these numbers, all others their own
   pub moved : Valuation
   moved n = elim (which (named n)) [ inl is ↦ numbers n | inr not ↦ v n ]
 

@@ -33,7 +33,7 @@ from_to low high number h k = and_both _ _ (is_at_most low number h) (is_at_most
 in_type : (model : DataModel) (ty : IntType) (number : ℤ) → InRange model ty number → lies_in (least_of model ty, greatest_of model ty) number ≡ true
 in_type model ty number h = from_to (least_of model ty) (greatest_of model ty) number h.from_least h.to_greatest
 
--- a number that is masked by one that isn't below 0
+-- a number that is masked with one from 0
 masked : (mask number : ℤ) → (pos 0 ≤ℤ mask → IsBetween (pos 0) mask number) → fits_mask mask number ≡ true
 masked (negsuc n) number h = refl
 masked (pos n) number h =

@@ -17,7 +17,7 @@ nonzero_product (negsuc m) (pos zero) h k e = k refl
 nonzero_product (negsuc m) (pos (suc n)) h k e = omega (arith, ints, negsuc-*ℤ-pos m (suc n))
 nonzero_product (negsuc m) (negsuc n) h k e = omega (arith, ints, negsuc-*ℤ-negsuc m n)
 
--- whether two numbers are one
+-- whether two numbers are equal
 pub same_or_not : (a b : ℤ) → (a ≡ b) ⊎ (a ≢ b)
 same_or_not a b = by (int_eq a b) refl
   where
@@ -44,7 +44,7 @@ same_factor a b c nonzero e = elim (same_or_not a b) [
       absurd (nonzero_product c (a +ℤ neg_ℤ b) nonzero difference (omega (arith, ints, split, turned, e)))
 ]
 
--- an affine function with a slope that isn't 0 has a value of its own at each number
+-- an affine function with a slope that isn't 0 has different values at different numbers
 pub affine_apart : (slope at value x y : ℤ) → slope ≢ pos 0 → x ≢ y → affine slope at value x ≢ affine slope at value y
 affine_apart slope at value x y nonzero differ e =
     let same = same_factor (x -ℤ at) (y -ℤ at) slope nonzero (omega (arith, ints, e)) in

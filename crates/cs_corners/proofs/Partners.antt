@@ -69,7 +69,7 @@ module _ (sets : Sets) (left right : Lin) (s t : Sym) (left_over : left.sym ≡ 
         passed;
   }
 
-  -- a corner with another pair of operands than the first: with some second corner the pairs don't lie on one line. It passes what it passes with any pair
+  -- a corner with another pair of operands than the first valuation's: with some second corner the pairs aren't on one line. The test holds for any second pair
   partner : (test : Pair → Pair → Bool) (p o q r : ℤ) → IsFrame p o q r → (mine ≢ (value_at left p, value_at right q))
       → ((pair : Pair) → test (value_at left p, value_at right q) pair ≡ true)
       → HasTwo sets left right v (λ first second. are_spread mine (Two first second) && test first second)
@@ -116,7 +116,7 @@ module _ (sets : Sets) (left right : Lin) (s t : Sym) (left_over : left.sym ≡ 
       by true false e f g = at_first false e f
       by false true e f g = at_first true e f
 
-  -- some two corners don't lie on one line with the first pair
+  -- some two corners aren't on one line with the first pair
   pub spread : (p o q r : ℤ) → IsFrame p o q r → HasTwo sets left right v (λ first second. are_spread mine (Two first second))
   spread p o q r h = elim (same_or_not (value_at left p) mine.0) [
     | inr other ↦ two (λ first second. are_spread mine (Two first second)) p q p r h.p_end h.q_end h.p_end h.r_end
@@ -128,7 +128,7 @@ module _ (sets : Sets) (left right : Lin) (s t : Sym) (left_over : left.sym ≡ 
   abbrev Met : Type 0
   Met = HasTwo sets left right v (λ first second. are_spread mine (Two first second) && meets_zero mine (Two first second))
 
-  -- the difference of the operands isn't above 0 at one corner and isn't below it at the opposite one
+  -- the difference of the operands is at most 0 at one corner and at least 0 at the opposite one
   pub met : (p o q r : ℤ) → IsFrame p o q r → gap (value_at left p, value_at right q) ≤ℤ pos 0
       → pos 0 ≤ℤ gap (value_at left o, value_at right r)
       → gap (value_at left p, value_at right q) <ℤ gap (value_at left o, value_at right r) → Met
@@ -138,7 +138,7 @@ module _ (sets : Sets) (left right : Lin) (s t : Sym) (left_over : left.sym ≡ 
       differ : (one other : Pair) → gap one <ℤ gap other → one ≢ other
       differ one other lt e = let same : gap one ≡ gap other = ap gap e in absurd (omega (arith, ints))
 
-      -- the first corner serves
+      -- the first corner meets the test
       low_corner : pos 0 ≤ℤ gap mine → gap (value_at left p, value_at right q) <ℤ gap mine → Met
       low_corner from lt = partner (λ first second. meets_zero mine (Two first second)) p o q r h (λ e. differ _ _ lt (sym e))
           (λ pair. let here : Pair = (value_at left p, value_at right q) in

@@ -103,7 +103,7 @@ pub corners_have : (model : DataModel) (sets : Sets) (asked : Question) (v : Val
     → ¬ IsFollowed model sets asked v → HasGroundAtCorners model sets asked v
 corners_have model sets asked v inhabited h n = has_ground_at_corners model sets v (all_ends sets inhabited) asked h n
 
--- the operation at another valuation is the same one with the operands there: for those who run it
+-- the operation under another valuation is the same one with the operands there: for those who run it
 pub same_operation : (model : DataModel) (sets : Sets) (asked : Question) (v w : Valuation) → ¬ IsFollowed model sets asked v
     → with_operands (operation_of v asked) (operands_under asked w) ≡ operation_of w asked
 same_operation model sets (question.Binary op ty left right) v w n = refl

@@ -21,7 +21,7 @@ or_second false b e = e
 pub and_both : (a b : Bool) → a ≡ true → b ≡ true → (a && b) ≡ true
 and_both a b e f = rw (e, f) refl
 
--- one of two numbers that differ is another than a third one
+-- one of two different numbers differs from a third
 pub one_differs : (a b x : ℤ) → a ≢ b → (not (int_eq a x) || not (int_eq b x)) ≡ true
 one_differs a b x d = elim (same_or_not a x) [
   | inl same ↦ or_second (not (int_eq a x)) (not (int_eq b x)) (not_equal b x (λ e. d (same ∙ sym e)))

@@ -62,7 +62,7 @@ fixed_or_movable sets ends term declared = by term.sym refl
     by None e = inl (inl e)
     by (Some s) e = with_set s e (set_of sets s.0) refl
 
--- the end that a number isn't
+-- the end that differs from a number
 module _ (sets : Sets) (ends : AllEnds sets) (n : ℕ) (x : ℤ) where
   pub away : ℤ
   away = elim (same_or_not x (ends n).low) [ inl same ↦ (ends n).high | inr differ ↦ (ends n).low ]
@@ -94,7 +94,7 @@ pub record IsStretched (sets : Sets) (term : Lin) (s : Sym) : Type 0 where
   pub bounds : (v : Valuation) → Fits v sets → (value_at term at_low ≤ℤ value_of v term) × (value_of v term ≤ℤ value_at term at_high)
 
 module _ (sets : Sets) (ends : AllEnds sets) (term : Lin) (is_term : IsTerm term) (m : IsMovable sets ends term) where
-  -- a term's value lies between bounds for those at both ends
+  -- a term's value is between bounds for its values at both ends
   pub inside : (low high : ℤ) → let first = value_at term (ends m.symbol.0).low in let last = value_at term (ends m.symbol.0).high in
       (low ≤ℤ first) × (first ≤ℤ high) → (low ≤ℤ last) × (last ≤ℤ high)
       → (v : Valuation) → Fits v sets → (low ≤ℤ value_of v term) × (value_of v term ≤ℤ high)

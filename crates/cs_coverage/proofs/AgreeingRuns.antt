@@ -35,12 +35,12 @@ use Rattle.cs_coverage.proofs.Mentioned.{blocks_mentioned, mentioned_alike}
 use Rattle.cs_coverage.proofs.Merging.{SaysAll}
 use Rattle.cs_coverage.proofs.Patched.{patched, patched_agrees}
 
--- what stands after the first part of a list
+-- the item after the first part of a list
 item_after : {A : Type 0} (xs : List A) (x : A) (ys : List A) → slice_get (xs ++ x ∷ ys) (length xs) ≡ Some x
 item_after [] x ys = refl
 item_after (y ∷ xs) x ys = item_after xs x ys
 
--- a run's number for a guess is the listed one, or the number that leads on at the event
+-- a run's number for a guess is the listed one, or else the number with which the run continues after the event
 pub gives_own : (program : TypedProgram) (entry : ℕ) (budgets : RunBudgets) (names : Naming) (inputs : Path → ℤ) (guesses : List Guess) (all : List Step)
     (last : Log) (event : ℕ) (symbol : Sym) → slice_get names.syms symbol.0 ≡ Some (GuessAt event) → (earlier more : List Step) (one : Step)
     → all ≡ earlier ++ one ∷ more → event ≡ suc (length earlier)
@@ -52,7 +52,7 @@ gives_own program entry budgets names inputs guesses all last event symbol named
     ap (λ o. unwrap_or (option_map (number_of (setting_with program budgets inputs guesses) (received_by program entry ++ last.read) all) o) (pos 0)) named
     ∙ ap (unwrap_or (guess_at guesses event)) (ap (answer_at all) count ∙ passes_one)
 
--- the symbols that are known, and that of a guess
+-- the known symbols, and that of a guess
 abbrev known_with : (ℕ → Bool) → Option Sym → ℕ → Bool
 known_with known None symbol = known symbol
 known_with known (Some guess) symbol = known symbol || nat_eq symbol guess.0
@@ -74,7 +74,7 @@ has_guess known (Some guess) symbol is =
     let same : symbol.0 ≡ guess.0 = cc in
     or_right (known symbol.0) (nat_eq symbol.0 guess.0) (eq-eqb symbol.0 guess.0 same)
 
--- blocks over symbols that are known are over more
+-- blocks over known symbols are blocks over more symbols
 blocks_more : (known more : ℕ → Bool) → ((symbol : ℕ) → known symbol ≡ true → more symbol ≡ true) → (blocks : Blocks)
     → AreBlocksOver known blocks → AreBlocksOver more blocks
 blocks_more known more includes blocks =
@@ -90,7 +90,7 @@ blocks_themselves valuation blocks =
     equal : (symbol : ℕ) → agreeing valuation valuation symbol ≡ true
     equal symbol = (Decides-int_eq (valuation symbol) (valuation symbol)).1 refl
 
--- a child's valuation agrees, if it differs at the guess symbol alone and gives that the run's own number
+-- a child's valuation agrees, if it differs only at the guess symbol and has the run's own number there
 pub child_agrees : (code : Code) (program : TypedProgram) (budgets : RunBudgets) (names : Naming) (before : State) (child : Child)
     → MentionsGuess code program budgets names before child → child.state.value.blocks ≡ before.blocks → (own valuation after : Valuation)
     → AgreesOnMentioned program names.bases before own valuation
@@ -106,7 +106,7 @@ child_agrees code program budgets names before child mentions same_blocks own va
       agrees.blocks);
 }
   where
-    -- what agreed before agrees yet
+    -- a symbol that agreed before still agrees
     still : (symbol : ℕ) → agreeing own valuation symbol ≡ true → agreeing own after symbol ≡ true
     still symbol is = (Decides-int_eq (after symbol) (own symbol)).1 (by_guess child.guess refl)
       where
@@ -139,7 +139,7 @@ child_agrees code program budgets names before child mentions same_blocks own va
         known_left true b either not = refl
         known_left false b either not = let wrong : true ≡ false = sym either ∙ not in cc
 
--- and so does the one that stands for it in a state with an equal live part
+-- and so does the corresponding valuation of a state with an equal live part
 pub merged_agrees : (program : TypedProgram) (bases : List Base) (one two : State) → live_part one ≡ live_part two → SaysAll one → SaysAll two
     → (declared : ℕ → Bool) → HasLocalsAlone program bases declared two → (own valuation possible : Valuation) → Fits valuation one.constraints
     → AgreesOnMentioned program bases one own valuation

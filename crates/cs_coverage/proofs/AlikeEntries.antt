@@ -19,14 +19,14 @@ module _ {V : Type 0} where
   rest_keyed : (e : (ℕ × ℕ) × V) (es : EntryList V) → Keyed (e ∷ es) → Keyed es
   rest_keyed e es keyed key there = keyed key (some_either (eq_by_cmp key_cmp key e.0) e.1 (find key_cmp key es) there)
 
-  -- entries one by one with equal keys, and values of which this holds
+  -- entries with equal keys, one by one, and values related by R
   abbrev pub AreAlike : (V → V → Type 0) → EntryList V → EntryList V → Type 0
   AreAlike R [] [] = Unit {0}
   AreAlike R [] (f ∷ fs) = ⊥
   AreAlike R (e ∷ es) [] = ⊥
   AreAlike R (e ∷ es) (f ∷ fs) = (e.0 ≡ f.0) × R e.1 f.1 × AreAlike R es fs
 
-  -- both maps have nothing under a key, or what is alike
+  -- both maps have nothing at a key, or related values
   abbrev pub FindsAlike : (V → V → Type 0) → Option V → Option V → Type 0
   FindsAlike R None None = Unit {0}
   FindsAlike R None (Some y) = ⊥
@@ -49,7 +49,7 @@ module _ {V : Type 0} where
       alike.0
       (either_alike R (eq_by_cmp key_cmp key e.0) e.1 f.1 (find key_cmp key es) (find key_cmp key fs) alike.1 (find_alike R key es fs alike.2))
 
-  -- entries of which the same is said are alike
+  -- entries that are described equally are alike
   module _ {B : Type 0} (said other : ((ℕ × ℕ) × V) → B) (number : B → ℕ) (R : V → V → Type 0)
       (numbered : (e : (ℕ × ℕ) × V) → number (said e) ≡ e.0.0) (counted : (e : (ℕ × ℕ) × V) → number (other e) ≡ e.0.0)
       (same : (e f : (ℕ × ℕ) × V) → said e ≡ other f → R e.1 f.1) where
@@ -71,11 +71,11 @@ module _ {V : Type 0} where
       (subst (λ o. FindsAlike R (find key_cmp key (finite.entries one)) o) (sym (finite.get-entries other key))
       (find_alike R key (finite.entries one) (finite.entries other) alike))
 
-  -- the keys that a map finds stand beside a zero
+  -- each key of a map is beside a zero
   pub map_keyed : (m : finite.FinMap key_cmp V) → ((key : ℕ × ℕ) → IsTrue (is_some (finite.get m key)) → key.1 ≡ 0) → Keyed (finite.entries m)
   map_keyed m keyed key there = keyed key (subst (λ (o : Option V). IsTrue (is_some o)) (sym (finite.get-entries m key)) there)
 
--- lists of which the same is said have the same values
+-- lists whose items are described equally have the same values
 module _ {A B C : Type 0} (said other : A → B) (p q : A → C) (same : (x y : A) → said x ≡ other y → p x ≡ q y) where
   pub map_alike : (xs ys : List A) → map said xs ≡ map other ys → map p xs ≡ map q ys
   map_alike [] [] is = refl

@@ -19,7 +19,7 @@ nothing_found : {A V : Type 0} (v : V) → None ≡ Some v → A
 nothing_found v e = cc
 
 module _ {V : Type 0} (P : ℕ × ℕ → V → Type 0) where
-  -- of an entry
+  -- the same predicate for an entry
   abbrev pub OfEntry : (ℕ × ℕ) × V → Type 0
   OfEntry entry = P entry.0 entry.1
 
@@ -55,7 +55,7 @@ module _ {X : Type 0} (Q : X → Type 0) where
   back (x ∷ xs) ys all = back xs ys (All-tail Q x (xs ++ ys) all)
 
   module _ {W : Type 0} where
-    -- of what lists are made of
+    -- what holds for all items of some lists holds for all of their concatenation, and conversely
     flattened : (f : W → List X) (ws : List W) → All (λ (w : W). All Q (f w)) ws → All Q (flat_map f ws)
     flattened f [] all = All-nil Q
     flattened f (w ∷ ws) all =

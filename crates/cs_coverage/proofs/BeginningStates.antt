@@ -47,7 +47,7 @@ use Rattle.cs_coverage.proofs.LiveMeaning.{none_there}
 nothing_there : {A V : Type 0} (v : V) → None ≡ Some v → A
 nothing_there v e = cc
 
--- no answer is left to be used
+-- without answers an act has used all of them
 uses_none : (cells : Path → InputKind → Cell) (act : Act CodeState) → UsesAll cells [] act
 unfolding UsesAll
 uses_none cells (Goes next) = refl

@@ -57,7 +57,7 @@ use Rattle.cs_coverage.specs.IntegerEntries.{HasIntegerParameters}
 use Rattle.cs_coverage.specs.OwnNumbers.{input_number, kind_in, number_of as number_for, own_valuation, received_by}
 use Rattle.cs_coverage.proofs.OwnBeginnings.{IsScalar, parameter_number, own_fits}
 
--- what is found where nothing is
+-- an empty map has no values
 nothing_found : {V : Type 0} (o : ℕ) (x : V) → finite.get (finite.empty {X = V} {R = key_cmp}) (o, 0) ≡ Some x → ⊥
 nothing_found {V} o x is = none_some (sym (finite.get-empty {X = V} key_cmp (o, 0)) ∙ is)
   where
@@ -97,7 +97,7 @@ same_declaration frame declaration other number e = cc
 scalar_integer : (shape : Shape) (ty : IntType) → shape ≡ integer ty → IsScalar shape
 scalar_integer shape ty is = subst IsScalar (sym is) tt
 
--- integers come with no blocks
+-- integers add no blocks to memory
 none_opened : (program : TypedProgram) (inputs : Path → ℤ) (vs : List Variable) (memory : Memory)
     → ((number : ℕ) (v : Variable) → slice_get vs number ≡ Some v → (ty : IntType) × (v.ty ≡ integer ty))
     → with_received program inputs vs memory ≡ memory
@@ -124,7 +124,7 @@ module _ (code : Code) (program : TypedProgram) (entry : ℕ) (budgets : RunBudg
   here : (number : ℕ) (v : Variable) → slice_get parameters number ≡ Some v → IsHere v number
   here number v there = record { early = slice_get_within parameters number v there; there = there }
 
-  -- what a base region holds
+  -- the binding of a base region
   bound_at : (base offset : ℕ) (value : Value) → finite.get (contents_of state.store base).direct (offset, 0) ≡ Some value
       → held state.store base offset ≡ Direct value
   bound_at base offset value is = ap (λ b. option_map_or (λ value. Direct value) b (Fill (contents_of state.store base).fill)) is
@@ -145,7 +145,7 @@ module _ (code : Code) (program : TypedProgram) (entry : ℕ) (budgets : RunBudg
       by None = refl
       by (Some base) = fill_unset base
 
-  -- the values of which are those of parameters
+  -- the bindings are those of parameters
   record IsBound (object : Object) (offset : ℕ) : Type 0 where
     at_start : offset ≡ 0
     number : ℕ
@@ -180,7 +180,7 @@ module _ (code : Code) (program : TypedProgram) (entry : ℕ) (budgets : RunBudg
     abbrev cell : Value → Cell
     cell = cell_of names.bases state.blocks own
 
-    -- a parameter's symbol has the number of its input
+    -- the own number of a parameter's symbol is that of its input
     pub own_is : (number : ℕ) (v : Variable) → slice_get parameters number ≡ Some v → (symbol : ℕ)
         → slice_get given.syms symbol ≡ Some (Input (parameter_path v))
         → own symbol ≡ input_number program.model (input_kind v.ty) (inputs (parameter_path v))
@@ -203,7 +203,7 @@ module _ (code : Code) (program : TypedProgram) (entry : ℕ) (budgets : RunBudg
         let ty = integers number v there in
         holds_number v number there it.value v.ty ty.0 refl ty.1 it.holds
 
-    -- an object that is no parameter is as it was
+    -- an object that isn't a parameter is unchanged
     as_it_was : (object : Object) → ((number : ℕ) → object ≢ LocalObject 0 number)
         → (block : Known) → ((offset : ℕ) → block.written offset ≡ None)
         → written_over cell (contents_in state.store (number_of names.bases object)) block ≡ block
@@ -220,7 +220,7 @@ module _ (code : Code) (program : TypedProgram) (entry : ℕ) (budgets : RunBudg
     statics object other None unset = refl
     statics object other (Some block) unset = ap Some (as_it_was object other block (unset block refl))
 
-    -- no start block and no heap block is there
+    -- there is no start block and no heap block
     no_block : (object : Object) (owners : List Owner) (found : Option ℕ)
         → option_and_then (block_there program names owners state.blocks own object) found ≡ None
     no_block object owners None = refl
@@ -353,7 +353,7 @@ module _ (code : Code) (program : TypedProgram) (entry : ℕ) (budgets : RunBudg
           todo = begins_block code entry (unwrap_or (flow_of code entry) no_flow).entry i;
         })
 
-    -- the state means the beginning of the run
+    -- the state represents the beginning of the run
     pub meaning_is : meaning code names program state own ≡ code_started code program inputs entry (routine_of program entry)
     meaning_is =
         let frame = frame_is in

@@ -15,13 +15,13 @@ use Rattle.cs_explored.specs.declared.explored.Row.{Row}
 use Rattle.cs_explored.specs.declared.watch.Rule.{Rule}
 use Rattle.cs_coverage.specs.Closing.{Waits, IsOpen, HasRowFor, AreNames, IsRowState, IsExpanded, IsClosed}
 
--- what has a place in a list keeps it as the list grows
+-- an element keeps its index as a list grows
 pub kept_place : {A : Type 0} (xs ys : List A) (place : ℕ) (x : A) → slice_get xs place ≡ Some x → slice_get (xs ++ ys) place ≡ Some x
 kept_place [] ys place x there = cc
 kept_place (y ∷ xs) ys zero x there = there
 kept_place (y ∷ xs) ys (suc place) x there = kept_place xs ys place x there
 
--- an element of a longer list was there, or is the new one
+-- an element of a list with one more is an earlier one or the new one
 pub last_or_before : {A : Type 0} (xs : List A) (y x : A) (place : ℕ) → slice_get (xs ++ y ∷ []) place ≡ Some x
     → (slice_get xs place ≡ Some x) ⊎ ((place ≡ length xs) × (x ≡ y))
 last_or_before [] y x zero there = inr (refl, sym (same_Some y x there))
@@ -156,7 +156,7 @@ module _ (code : Code) (program : TypedProgram) (entry : ℕ) (budgets : RunBudg
       ];
     }
 
-    -- other rows wait: all that did, or whose children are there
+    -- other rows wait: all that did, or those whose children are there
     pub closed_but : (rows : List Row) (ends : List End) (Are Were : ℕ → Type 0) → ((number : ℕ) → Were number → Are number)
         → IsClosed code program entry budgets rules given rows ends Were → IsClosed code program entry budgets rules given rows ends Are
     closed_but rows ends Are Were waits is = record {
@@ -165,7 +165,7 @@ module _ (code : Code) (program : TypedProgram) (entry : ℕ) (budgets : RunBudg
       expanded = λ number row there not. is.expanded number row there (λ were. not (waits number were));
     }
 
-    -- a row is given, and worked on from then on
+    -- a row is taken from the worklist
     pub closed_given : (rows : List Row) (ends : List End) (row : ℕ) (before after : List (ℕ × ℕ)) → IsGiven row before after
         → IsClosed code program entry budgets rules given rows ends (Waits before)
         → IsClosed code program entry budgets rules given rows ends (IsOpen row after)
@@ -176,7 +176,7 @@ module _ (code : Code) (program : TypedProgram) (entry : ℕ) (budgets : RunBudg
           (λ waits. not (inl (waits.0, is.others waits.0 number waits.1 (λ same. not (inr same)))));
     }
 
-    -- all that comes of the row that is worked on is there
+    -- all successors of the row that was taken are there
     pub closed_expanded : (rows : List Row) (ends : List End) (row : ℕ) (work : List (ℕ × ℕ))
         → ((found : Row) → slice_get rows row ≡ Some found → IsExpanded code program entry budgets rules given rows ends row found)
         → IsClosed code program entry budgets rules given rows ends (IsOpen row work)

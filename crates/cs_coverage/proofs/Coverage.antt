@@ -42,7 +42,7 @@ tail_is one other steps more e = cc
 head_is : (one other : Step) (steps more : List Step) → one ∷ steps ≡ other ∷ more → other ≡ one
 head_is one other steps more e = cc
 
--- what holds of all elements holds of the one at a place
+-- what holds for all elements holds for the one at an index
 pub element : {A : Type 0} (P : A → Type 0) (xs : List A) (place : ℕ) (x : A) → slice_get xs place ≡ Some x → All P xs → P x
 element P xs place x there all =
     subst P (get_or_from_slice_get xs place x x there) (All-get_or P xs place x (slice_get_within xs place x there) all)
@@ -56,7 +56,7 @@ module _ (code : Code) (program : TypedProgram) (entry : ℕ) (budgets : RunBudg
   abbrev here : Setting
   here = setting_with program budgets inputs []
 
-  -- the numbers that the run gives symbols after all steps
+  -- the numbers that symbols have in the whole run
   abbrev own : Valuation
   own = own_valuation program entry names here all last
 
@@ -66,7 +66,7 @@ module _ (code : Code) (program : TypedProgram) (entry : ℕ) (budgets : RunBudg
   abbrev step : CodeState → Act CodeState
   step = step_of code program entry budgets
 
-  -- at its beginning a run stands at the first row
+  -- at its beginning a run is at the first row
   at_first : (left : Act CodeState) (log : Log) → left ≡ step (start_of code program entry budgets here) → log ≡ empty → AtRow [] left log
   at_first left log is none =
       let begins = closed.first.begins names are in
@@ -93,7 +93,7 @@ module _ (code : Code) (program : TypedProgram) (entry : ℕ) (budgets : RunBudg
         };
       }
 
-  -- from a row a run comes to a child, or to an end
+  -- from a row a run reaches a child or an end
   comes : {passed : List Step} (left : Act CodeState) (log : Log) (at : AtRow passed left log)
       → let parts = closed.expanded at.number at.row at.there (λ waits. waits) in
       ComesToChild code program budgets names parts.made here at.valuation left log
@@ -102,7 +102,7 @@ module _ (code : Code) (program : TypedProgram) (entry : ℕ) (budgets : RunBudg
       ((closed.expanded at.number at.row at.there (λ waits. waits)).comes names are).covers here at.valuation left log
       (record { model = refl; limits = refl }) at.at refl
 
-  -- a run that comes to a child stands at a row then
+  -- a run that reaches a child is at a row then
   at_child : {passed : List Step} (left : Act CodeState) (log : Log) (at : AtRow passed left log)
       (child : ComesToChild code program budgets names (closed.expanded at.number at.row at.there (λ waits. waits)).made here at.valuation left log)
       (more : List Step) → all ≡ passed ++ child.to.one ∷ more → AtRow (passed ++ child.to.one ∷ []) child.to.rest child.to.later
@@ -179,7 +179,7 @@ module _ (code : Code) (program : TypedProgram) (entry : ℕ) (budgets : RunBudg
       let logs : before ≡ empty = cc in
       positions [] steps [] (all_are ∙ sym (append-nil steps)) (step next) left before log (at_first (step next) before (ap step nexts) logs) rest
 
-  -- at its end, after the steps that it has passed so far and those that it passes then
+  -- at its end, after the steps that it has passed so far and those that remain
   endings : (passed steps : List Step) → all ≡ passed ++ steps
       → (between : Act CodeState) (before : Log) (outcome : Outcome) (log : Log) → AtRow passed between before
       → Proceeds step here (step (start_of code program entry budgets here)) empty passed between before

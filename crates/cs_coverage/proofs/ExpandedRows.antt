@@ -52,7 +52,7 @@ module _ (code : Code) (program : TypedProgram) (entry : ℕ) (budgets : RunBudg
   abbrev IsGraph : Naming → RowGraph → List End → (List (ℕ × ℕ) → ℕ → Type 0) → Type 0
   IsGraph given graph ends Open = IsClosedGraph code program entry budgets rules given graph ends Open
 
-  -- the next row is given
+  -- a row is taken from the worklist
   pub graph_given : (given : Naming) (before after : RowGraph) (ends : List End) (row : ℕ) → IsGiven row before.work after.work
       → after ≡ with_work after.work before → IsGraph given before ends Waits → IsGraph given after ends (IsOpen row)
   graph_given given before after ends row is rest graph =
@@ -74,7 +74,7 @@ module _ (code : Code) (program : TypedProgram) (entry : ℕ) (budgets : RunBudg
         (closed_later code program entry budgets rules given later extends graph.rows ends (Open graph.work) is.closed);
   }
 
-  -- what comes of a state, with all that a graph needs
+  -- the successors of a state, with all that a graph requires of them
   pub record IsFound (given : Naming) (state : State) (made : List Child) (endings : List (Outcome × Box State)) : Type 0 where
     pub comes : (names : Naming) → AreNames given names → ComesOfState code program budgets names rules state made endings
     pub plain : (place : ℕ) (child : Child) → slice_get made place ≡ Some child → IsPlain child.state.value
@@ -98,7 +98,7 @@ module _ (code : Code) (program : TypedProgram) (entry : ℕ) (budgets : RunBudg
         let listed = behind ends (map (end_of_row row) endings) place (end_of_row row one) at_map in
         record { place = listed.0; there = listed.1 }
 
-    -- all ends and children are there
+    -- all ends and children were added
     pub graph_expanded : PlacesAll row made before after → IsGraph given before (ends ++ map (end_of_row row) endings) (IsOpen row)
         → IsGraph given after (ends ++ map (end_of_row row) endings) Waits
     graph_expanded places graph =
@@ -128,7 +128,7 @@ module _ (code : Code) (program : TypedProgram) (entry : ℕ) (budgets : RunBudg
       nobody : (x : ℕ × ℕ) → Contains [] x → ⊥
       nobody x (k, within, at) = omega (arith, within)
 
-  -- the first row was added, under a key that says its live part
+  -- the first row was added, with the words of its live part as its key
   begun : (given : Naming) (before after : RowGraph) (row : Row) (words : List ℕ) → words ≡ words_of (live_part row.state.value) → before.keys ≡ []
       → before.rows ≡ [] → (visits : ℕ) (added : Added) → IsAdded (pointwise nat_eq) words visits row added before after
       → IsRowState code program entry budgets rules given row.state.value

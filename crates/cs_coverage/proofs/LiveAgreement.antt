@@ -21,7 +21,7 @@ agrees_on_live program bases state own valuation plain agrees symbol live = by (
         (λ other is. live.elsewhere other (apart other ((Decides-int_eq (valuation other) (own other)).1 (agrees.agrees other is))))
         (λ other is. live.elsewhere other (apart other is))))
       where
-        -- a symbol with the run's own number is another one
+        -- a symbol with the run's own number differs from one without
         apart : (other : ℕ) → agreeing own valuation other ≡ true → other ≢ symbol
         apart other is same =
             let wrong : true ≡ false = sym is ∙ ap (agreeing own valuation) same ∙ not in

@@ -38,20 +38,20 @@ none_there {V} =
     (sym (finite.len-entries (finite.empty {X = V} {R = key_cmp})) ∙ finite.len-empty key_cmp V)
 
 module _ (sets others : Sets) where
-  -- a value that is said to be the same
+  -- values with equal live parts
   abbrev pub SameValue : Value → Value → Type 0
   SameValue x y = live_value sets x ≡ live_value others y
 
-  -- a block
+  -- blocks with equal live parts
   abbrev pub SameBlock : Block → Block → Type 0
   SameBlock b c = live_block sets 0 b ≡ live_block others 0 c
 
-  -- contents
+  -- contents with equal live parts
   abbrev pub SameContents : Contents → Contents → Type 0
   SameContents c d = (c.fill ≡ d.fill) × (map (live_binding sets) (bindings_of c) ≡ map (live_binding others) (bindings_of d))
 
 module _ (sets others : Sets) where
-  -- what contents hold at an offset
+  -- what contents have at an offset
   pub direct_alike : (c d : Contents) → HasOffsets c.direct → HasOffsets d.direct → SameContents sets others c d → (offset : ℕ)
       → FindsAlike (SameValue sets others) (finite.get c.direct (offset, 0)) (finite.get d.direct (offset, 0))
   direct_alike c d plain bare same offset =
@@ -132,7 +132,7 @@ module _ (sets others : Sets) (valuation other : Valuation)
     same_operand temporary.Nothing temporary.Nothing same = refl
     same_operand x y same = cc
 
-    -- what contents hold
+    -- the cell of a value that was found
     found_cell : (one two : Option Value) → FindsAlike (SameValue sets others) one two
         → option_map (cell_of bases blocks valuation) one ≡ option_map (cell_of bases counterparts other) two
     found_cell None None alike = refl

@@ -33,7 +33,7 @@ use Rattle.cs_progress.specs.Locals.{IsOver, PointsToLocal, PointToLocals, AreIn
 use Rattle.cs_coverage.specs.Agreeing.{IsBlockOver, AreBlocksOver}
 use Rattle.cs_coverage.proofs.AllEntries.{all_entries, all_read, OfCell}
 
--- functions that are equal on all elements give equal lists
+-- functions that are equal on all elements have equal images
 mapped : {A B : Type 0} (P : A → Type 0) (f g : A → B) → ((x : A) → P x → f x ≡ g x) → (xs : List A) → All P xs → map f xs ≡ map g xs
 mapped P f g equal [] all = refl
 mapped P f g equal (x ∷ xs) all =
@@ -116,7 +116,7 @@ module _ (sets others : Sets) (known : ℕ → Bool) (same : (symbol : ℕ) → 
     abbrev Bound : ℕ × Value → Type 0
     Bound bound = PointsToLocal bases known state.frame.number count bound.1
 
-    -- what is bound in a base region is said to be the same
+    -- the bindings of a base region have equal live parts
     abbrev IsSame : ℕ × Contents → Type 0
     IsSame region = map (live_binding sets) (bindings_of region.1) ≡ map (live_binding others) (bindings_of region.1)
 

@@ -11,14 +11,14 @@ use Rattle.cs_keys.proofs.Lines.{same_values}
 
 module _ (sets others : Sets) (valuation other : Valuation)
     (agrees : (symbol : ℕ) → set_of sets symbol ≡ set_of others symbol → other symbol ≡ valuation symbol) where
-  -- a symbol that is mentioned in the same way has the same number
+  -- symbols with equal live parts have the same number
   pub same_symbol : (s t : Sym) → live_symbol sets s ≡ live_symbol others t → valuation s.0 ≡ other t.0
   same_symbol s t same =
       let numbers : s.0 ≡ t.0 = ap (λ (l : LiveSymbol). l.number) same in
       let found : set_of sets s.0 ≡ set_of others t.0 = ap (λ (l : LiveSymbol). l.set) same in
       ap valuation numbers ∙ sym (agrees t.0 (ap (set_of sets) (sym numbers) ∙ found))
 
-  -- a function of a symbol that both mention in the same way has one value
+  -- a function of symbols with equal live parts has one value
   value_over : (so to : Option Sym) (slope at value : ℤ) → option_map (live_symbol sets) so ≡ option_map (live_symbol others) to
       → value_with valuation to slope at value ≡ value_with other to slope at value
   value_over so None slope at value same = refl

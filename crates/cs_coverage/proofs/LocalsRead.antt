@@ -37,7 +37,7 @@ use Rattle.cs_progress.specs.Stepping.{next_act, next_left}
 use Rattle.cs_spots.proofs.Going.{integer_at}
 use Rattle.cs_coverage.proofs.ReadingNothing.{ReadsNothing, same_left, PointsTo, IsKnown, IsKnownOperand, step_reads}
 
--- what a local holds
+-- the cells of a local
 module _ (program : TypedProgram) (cell : Value → Cell) (contents : Contents) (unset : (offset : ℕ) → finite.get contents.direct (offset, 0) ≡ None
     → contents.fill ≡ Unset) where
   found_block : (object : Object) (block : Block) → block.fill ≡ UnsetFill → (offset : ℕ)
@@ -72,7 +72,7 @@ module _ (program : TypedProgram) (names : Naming) (known : ℕ → Bool) (state
   abbrev memory : Memory
   memory = memory_of program names (map owner (state.frame ∷ state.callers)) state.blocks valuation state.store
 
-  -- nothing was filled
+  -- no fill was bound
   unset_in : (base : Option ℕ) (offset : ℕ) → finite.get (contents_in state.store base).direct (offset, 0) ≡ None
       → (contents_in state.store base).fill ≡ Unset
   unset_in None offset none = refl
@@ -122,7 +122,7 @@ module _ (program : TypedProgram) (names : Naming) (known : ℕ → Bool) (state
       (All-get_or (IsKnownOperand program memory) operands (length operands - 1 - k) (Scalar UnsetCell) (omega (arith, inside)) all))
 
   module _ (code : Code) (budgets : RunBudgets) (integers : HasIntegerCode code program state.frame.spot.function) where
-    -- the operation in progress reads nothing
+    -- the operation in progress reads no input
     pub reads_nothing : ReadsNothing (next_act code names program budgets state valuation)
     reads_nothing =
         step_reads code program budgets (count_of_locals program state.frame.spot.function) (point_of code state.frame.spot).operations
@@ -132,7 +132,7 @@ module _ (program : TypedProgram) (names : Naming) (known : ℕ → Bool) (state
         (turned (map (operand_of names.bases state.blocks valuation) state.frame.temporaries)
         (operands_known state.frame.number (count_of_locals program state.frame.spot.function) state.frame.temporaries locals.temporaries))
 
-    -- so the same is left of it, whatever cells inputs give
+    -- so what remains of it is the same, whatever cells inputs have
     pub any_cells : (cells others : Path → InputKind → Cell)
         → next_left code names program budgets cells state valuation ≡ next_left code names program budgets others state valuation
     any_cells cells others = same_left cells others _ reads_nothing

@@ -36,7 +36,7 @@ use Rattle.cs_coverage.proofs.Merging.{SaysAll, contents_alike}
 
 module _ (one two : State) (known kept : ℕ → Bool)
     (keeps : (symbol : ℕ) → known symbol ≡ true → set_of one.constraints symbol ≡ set_of two.constraints symbol → kept symbol ≡ true) where
-  -- a term that is said to be the same is over the same symbol, with the same numbers
+  -- terms with equal live parts are over the same symbol, with the same numbers
   over_alike : (x y : Lin) → live_term one.constraints x ≡ live_term two.constraints y → IsOver known x → IsOver kept y
   over_alike x y same over symbol is =
       let function = same_values one.constraints two.constraints x y same in

@@ -48,7 +48,7 @@ some_found : {V : Type 0} (o : Option V) → IsTrue (is_some o) → (v : V) × (
 some_found None h = cc
 some_found (Some v) h = (v, refl)
 
--- a state whose live part says all: it has no block, and plain keys
+-- a state whose live part describes all of it: it has no block, and plain keys
 pub record SaysAll (state : State) : Type 0 where
   pub plain : IsPlain state
   pub blocks : (base : ℕ) → block_of state.blocks base ≡ None
@@ -171,7 +171,7 @@ module _ (one two : State) (same : live_part one ≡ live_part two) (says : Says
         let written = written_alike (number_of names.bases object) in
         λ i. option_map (λ block. written block i) (there i)
 
-    -- both states mean the same
+    -- both states represent the same machine state
     pub meaning_alike : (code : Code) → meaning code names program one valuation ≡ meaning code names program two other
     meaning_alike code =
         let frame = frame_alike code names one.frame two.frame (ap (λ (l : LivePart). l.frame) same) in
@@ -192,7 +192,7 @@ module _ (one two : State) (same : live_part one ≡ live_part two) (says : Says
         map_alike (live_term one.constraints) (live_term two.constraints) (value_of valuation) (value_of other)
         (same_value one.constraints two.constraints valuation other agrees) one.answers two.answers (ap (λ (l : LivePart). l.answers) same)
 
-    -- and the same is left of the operation in progress
+    -- and what remains of the operation in progress is the same
     pub left_alike : (code : Code) (budgets : RunBudgets) (cells : Path → InputKind → Cell)
         → next_left code names program budgets cells one valuation ≡ next_left code names program budgets cells two other
     left_alike code budgets cells =
@@ -200,12 +200,12 @@ module _ (one two : State) (same : live_part one ≡ live_part two) (says : Says
         let answers = answers_alike in
         λ i. left_of cells (answers i) (act i)
 
--- the number of events is in the live part
+-- equal live parts have the same number of events
 events_alike : (one two : State) → live_part one ≡ live_part two → one.counters.events ≡ two.counters.events
 events_alike one two same = ap (λ (l : LivePart). l.counters.events) same
 
 module _ (code : Code) (program : TypedProgram) (budgets : RunBudgets) (names : Naming) where
-  -- a run that has come to where a state stands has come to where one with an equal live part stands
+  -- a run that has reached a state has reached each state with an equal live part
   pub merged : (one two : State) → live_part one ≡ live_part two → SaysAll one → SaysAll two → (valuation possible : Valuation)
       → Fits possible two.constraints → (setting : Setting) (left : Act CodeState) (log : Log)
       → IsAt code program budgets names one setting valuation left log

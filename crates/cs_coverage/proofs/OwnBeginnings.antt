@@ -42,7 +42,7 @@ use Rattle.cs_state.proofs.Received.{same_name}
 use Rattle.cs_successors.specs.EntryRuns.{setting_with}
 use Rattle.cs_coverage.specs.OwnNumbers.{input_number, kind_in, number_of, own_valuation, received_by}
 
--- what an entry's parameters may be
+-- the shapes that an entry's parameters may have
 abbrev pub IsScalar : Shape → Type 0
 IsScalar (integer ty) = Unit {0}
 IsScalar (pointer target) = Unit {0}
@@ -61,7 +61,7 @@ itself p = ap is_equal (equal_from_eq (path_order p p) ((eq_by_cmp_equiv path_or
 abbrev pub lookup_of : Variable → Lookup
 lookup_of v = record { path = parameter_path v; kind = input_kind v.ty }
 
--- the first of some variables with a path
+-- the first variable with this path
 pub record IsFirstAt (variables : List Variable) (path : Path) (more : List Lookup) : Type 0 where
   pub place : ℕ
   pub v : Variable
@@ -69,7 +69,7 @@ pub record IsFirstAt (variables : List Variable) (path : Path) (more : List Look
   pub same : parameter_path v ≡ path
   pub kind : kind_in (map lookup_of variables ++ more) path ≡ input_kind v.ty
 
--- by whether the first variable's path is the one
+-- depending on whether the first variable has this path
 first_or_later : (w : Variable) (variables : List Variable) (more : List Lookup) (v : Variable) (b : Bool)
     → is_equal (path_order (parameter_path v) (parameter_path w)) ≡ b
     → ((place : ℕ) → slice_get variables place ≡ Some v → IsFirstAt variables (parameter_path v) more)
@@ -129,7 +129,7 @@ parameter_number program entry budgets names differ number v there symbol named 
     ∙ ap (λ k. input_number program.model k (inputs (parameter_path v))) (found.kind ∙ ap (λ (w : Variable). input_kind w.ty) same)
 
 module _ (program : TypedProgram) (names : Naming) (state : State) (once : HasEachOnce names.syms) where
-  -- a symbol may have each number of the range that the state has for its name
+  -- a symbol may have each number of its range in the state
   in_set : (path : Path) (range : ℤ × ℤ) (declared : Sym) → Ranges names path range declared state → (symbol : ℕ) (set : List Interval)
       → slice_get names.syms symbol ≡ Some (Input path) → set_of state.constraints symbol ≡ Some set → (x : ℤ) → IsTrue (lies_in range x)
       → IsTrue (contains set x)

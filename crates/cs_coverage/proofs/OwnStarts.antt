@@ -33,7 +33,7 @@ use Rattle.cs_coverage.proofs.BeginningStates.{begins_integer}
 use Rattle.cs_coverage.proofs.Beginnings.{own, own_is, meaning_is, fits_own}
 use Rattle.cs_coverage.proofs.OwnBeginnings.{parameter_number}
 
--- an option that is there has something
+-- an option that isn't empty has something
 some_found : {A : Type 0} (o : Option A) → is_some o ≡ true → (a : A) × (o ≡ Some a)
 some_found None there = cc
 some_found (Some a) there = (a, refl)

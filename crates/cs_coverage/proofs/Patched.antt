@@ -10,7 +10,7 @@ abbrev pub patched_in : Option (List Interval) → ℤ → ℤ → ℤ
 patched_in None number other = number
 patched_in (Some set) number other = if contains set number then number else other
 
--- the numbers of the first valuation, where the sets have them, else those of the second
+-- the numbers of the first valuation if the sets have them, else those of the second
 abbrev pub patched : Sets → Valuation → Valuation → Valuation
 patched sets valuation other symbol = patched_in (set_of sets symbol) (valuation symbol) (other symbol)
 
@@ -24,7 +24,7 @@ patched_fits sets valuation other fits symbol set is =
     subst (λ found. IsTrue (contains set (patched_in found (valuation symbol) (other symbol)))) (sym is)
     (either_contained set (valuation symbol) (other symbol) (contains set (valuation symbol)) refl (fits symbol set is))
 
--- a symbol that has the same set where the first valuation fits has its number
+-- a symbol with the same set in both has the number of the first valuation
 pub patched_agrees : (sets own : Sets) (valuation other : Valuation) → Fits valuation own → (symbol : ℕ) → set_of own symbol ≡ set_of sets symbol
     → patched sets valuation other symbol ≡ valuation symbol
 patched_agrees sets own valuation other fits symbol same = by (set_of own symbol) refl same

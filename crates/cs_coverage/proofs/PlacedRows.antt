@@ -45,7 +45,7 @@ module _ (code : Code) (program : TypedProgram) (entry : ℕ) (budgets : RunBudg
         plain = state.plain;
       }
 
-  -- rows that are added come after those that were there
+  -- further rows come after the ones that were there
   abbrev pub HasMore : RowGraph → RowGraph → Type 0
   HasMore before after = (more : List Row) × (after.rows ≡ before.rows ++ more)
 

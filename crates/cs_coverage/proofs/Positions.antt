@@ -36,7 +36,7 @@ themselves names numbered = record {
 
 module _ (code : Code) (program : TypedProgram) (budgets : RunBudgets) (names : Naming) (state : State) {known : ℕ → Bool}
     (locals : HasLocalsAlone program names.bases known state) where
-  -- a state of integer code to which a run has come stands for the run: no cells of inputs matter
+  -- a state of integer code that a run has reached represents it, as cells of inputs don't matter
   pub stands_for : HasIntegerCode code program state.frame.spot.function → (setting : Setting) (valuation : Valuation) (left : Act CodeState)
       (log : Log) → IsAt code program budgets names state setting valuation left log
       → StandsFor code program budgets names state valuation (left_of (read_cell setting) [] left) log
@@ -59,7 +59,7 @@ module _ (code : Code) (program : TypedProgram) (entry : ℕ) (budgets : RunBudg
   abbrev are : AreNames names names
   are = themselves names numbered
 
-  -- the rows' and the ends' states are states of integer code, in which no cells of inputs matter
+  -- the states of rows and ends are of integer code, in which no cells of inputs matter
   pub covers_own : CoversOwn code program entry budgets rules explored
   covers_own = record {
     positions = λ all inputs steps left log has none.
@@ -100,7 +100,7 @@ module _ (code : Code) (program : TypedProgram) (entry : ℕ) (budgets : RunBudg
         };
   }
 
-  -- and so of all symbols of their live parts
+  -- and the same under the run's own numbers of all symbols of their live parts
   pub covers_live : Covers code program entry budgets rules explored
   covers_live = record {
     positions = λ all inputs steps left log has none.

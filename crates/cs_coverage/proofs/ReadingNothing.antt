@@ -42,12 +42,12 @@ use Rattle.cs_cfg.specs.Working.{CodeState, if_local, do_work}
 use Rattle.cs_cfg.specs.CodeSteps.{step_at, do_end}
 use Rattle.cs_cfg.specs.IntegerCode.{IsOfInteger, IsIntegerWork}
 
--- a value, if it is a pointer, points to such an object
+-- a value that is a pointer points to an object of this kind
 abbrev pub PointsTo : (Object → Type 0) → Cell → Type 0
 PointsTo Is (PointerCell object offset) = Is object
 PointsTo Is other = Unit {0}
 
--- what is held in an object is no input that isn't looked up yet
+-- each cell of an object is known, so that no input has to be looked up for it
 abbrev pub IsKnown : TypedProgram → Memory → Object → Type 0
 IsKnown program memory object = (offset : ℕ) → (cell : Cell) × (found_in program object (memory object) offset ≡ Holds cell)
 
@@ -63,7 +63,7 @@ module _ {S : Type 0} where
     reaches : {at : Place} {object : Object} {offset : ℤ} {act : Act S} → ReadsNothing act → ReadsNothing (Reaches at object offset act)
     touches : {touch : Touch} {act : Act S} → ReadsNothing act → ReadsNothing (Touches touch act)
 
-  -- so the same is left of it, whatever cells inputs give
+  -- so what remains of it is the same, whatever cells inputs have
   pub same_left : (cells others : Path → InputKind → Cell) (answers : List ℤ) {act : Act S} → ReadsNothing act
       → left_of cells answers act ≡ left_of others answers act
   unfolding left_of
@@ -209,11 +209,11 @@ reached : (budgets : RunBudgets) (at : Place) (kind : PointKind) (counted_point 
 reached budgets at kind counted_point None m = stops
 reached budgets at kind counted_point (Some count) m = either _ _ _ (touches goes) stops
 
--- pointers of operands point to what is known
+-- a pointer of an operand points to a known object
 abbrev pub IsKnownOperand : TypedProgram → Memory → Operand → Type 0
 IsKnownOperand program memory operand = PointsTo (IsKnown program memory) (cell_of operand)
 
--- the operands of a run are such, but for those that aren't there
+-- the operand at some age points to a known object, or there is none
 operand_known : (program : TypedProgram) (memory : Memory) (found : Option Operand)
     → ((operand : Operand) → found ≡ Some operand → IsKnownOperand program memory operand)
     → PointsTo (IsKnown program memory) (cell_of (unwrap_or found (Scalar UnsetCell)))
@@ -221,7 +221,7 @@ operand_known program memory None known = tt
 operand_known program memory (Some operand) known = known operand refl
 
 module _ (code : Code) (program : TypedProgram) (budgets : RunBudgets) where
-  -- each operand of a state is such
+  -- each operand of a state points to known objects
   abbrev pub HasKnownOperands : CodeState → Type 0
   HasKnownOperands m = All (IsKnownOperand program m.memory) m.frame.stack
 
@@ -284,7 +284,7 @@ module _ (code : Code) (program : TypedProgram) (budgets : RunBudgets) where
   end_reads (Return temporary) m = leaves m.callers _ m
   end_reads Finish m = leaves m.callers _ m
 
-  -- a step at a point whose first operation works with integers alone
+  -- a step at a point whose first operation works only with integers
   pub step_reads : (count : ℕ) (operations : List CodeOperation) (end : BlockEnd) (m : CodeState)
       → ((one : CodeOperation) (rest : List CodeOperation) → operations ≡ one ∷ rest → IsIntegerWork count one.work) → HasKnownOperands m
       → ReadsNothing (step_at code program budgets operations end m)

@@ -11,7 +11,7 @@ use Rattle.cs_explored.specs.Placing.{RowGraph}
 use Rattle.cs_coverage.specs.Closing.{HaveKeys}
 use Rattle.cs_coverage.proofs.ClosedGraphs.{kept_place, last_or_before, last_there}
 
--- an element of a list is at a place that the list has
+-- a list has an element at each index below its length
 pub some_there : {A : Type 0} (xs : List A) (place : ℕ) → place < length xs → (x : A) × (slice_get xs place ≡ Some x)
 some_there [] place within = absurd (omega (arith, within))
 some_there (x ∷ xs) zero within = (x, refl)

@@ -11,7 +11,7 @@ use Rattle.cs_ast.specs.TypedProgram.{TypedProgram, Variable, variable}
 use Rattle.cs_state.specs.Starting.{HaveSizes, HasSizes, DifferInName}
 use Rattle.cs_engine.specs.Parameters.{DiffersFromBefore}
 
--- the parameter that is a variable
+-- the parameter of a variable
 record IsOf (parameters : List Local) (number : ℕ) (v : Variable) : Type 0 where
   parameter : Local
   there : slice_get parameters number ≡ Some parameter
@@ -25,7 +25,7 @@ of_variable parameters number v at = by (slice_get parameters number) refl (sym 
     by None there e = absurd (none-some v e)
     by (Some parameter) there e = record { parameter = parameter; there = there; is = same_Some (variable parameter) v e }
 
--- what the parameter with a number points to has small sizes
+-- the type that this parameter points to has small sizes
 abbrev pub IsSized : TypedProgram → List Local → ℕ → Type 0
 IsSized program parameters number = (parameter : Local) → slice_get parameters number ≡ Some parameter
     → HasSizes program (shape_of parameter.ty)
@@ -66,7 +66,7 @@ all_differ parameters count all differ one other v w at_one at_other same =
       ]
     ]
 
--- no parameter of the first so many has the name of another one
+-- an earlier parameter has another name
 abbrev pub IsOther : List Local → ℕ → ℕ → Type 0
 IsOther parameters number earlier = (v w : Local) → slice_get parameters earlier ≡ Some v → slice_get parameters number ≡ Some w → v.name ≡ w.name
     → ⊥
@@ -81,7 +81,7 @@ pub differs : (parameters : List Local) (number : ℕ) → ((earlier : ℕ) → 
     → DiffersFromBefore parameters number
 differs parameters number others earlier v w before at_v at_w same = others earlier before v w at_v at_w same
 
--- what a pointer points to
+-- the target of a pointer
 pub pointer_sized : (program : TypedProgram) (target : Shape) → HasSmallSizes program.model program.table target
     → HasSizes program (pointer target)
 pointer_sized program target small other e =

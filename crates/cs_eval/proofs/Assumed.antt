@@ -8,7 +8,7 @@ use Rattle.cs_terms.specs.Term.{Valuation, value_of}
 use Rattle.cs_constraints.specs.Constraints.{Sets, Fits, Keeps, RulesOut}
 use Rattle.cs_eval.specs.Parts.{Truths, IsHalf}
 
--- the truth, or its opposite
+-- a truth, or its opposite
 abbrev pub turned : Bool → Bool → Bool
 turned true b = b
 turned false b = not b
@@ -28,7 +28,7 @@ turned-same true b e = e
 turned-same false true e = absurd (cc)
 turned-same false false e = refl
 
--- an assumption that holds exactly where a truth does, or doesn't
+-- the half of constraints in which a truth is `holds`, by assuming a set that has a term's value exactly there
 pub half_of : (sets : Sets) (term : Lin) (set : List Interval) (truth : Truths) (holds : Bool)
     → ((v : Valuation) → Fits v sets → contains set (value_of v term) ≡ turned holds (truth v))
     → (answer : Option Sets) → MatchOption answer (RulesOut sets term set) (Keeps sets term set) → IsHalf sets term.sym truth holds answer
@@ -44,7 +44,7 @@ half_of sets term set truth holds same (Some after) m = record {
   others = m.others;
 }
 
--- a comparison and its opposite
+-- a double negation
 pub not-not : (b : Bool) → not (not b) ≡ b
 not-not true = refl
 not-not false = refl

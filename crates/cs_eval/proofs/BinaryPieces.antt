@@ -37,7 +37,7 @@ use Rattle.cs_eval.proofs.WrapPieces.{IsWrap, AreGuesses, IsFarGuessed, whole_sp
 abbrev pub binary_asking : DataModel → Sets → BinOp → IntType → Lin → Lin → Asking
 binary_asking model sets op ty left right = asking_of model sets (question.Binary op ty left right)
 
--- the numbers that may be guessed for the operator
+-- the numbers that may be guessed for an operator
 abbrev pub HasGuesses : DataModel → Sets → BinOp → IntType → Lin → Lin → Type 0
 HasGuesses model sets op ty left right =
     (numbers : Interval) → HasNumbers model (asked_of op ty left right) numbers → AreGuesses model sets (binary_asking model sets op ty left right) numbers
@@ -73,7 +73,7 @@ module _ (model : DataModel) (sets : Sets) (guess : ℕ) (op : BinOp) (ty : IntT
       guesses h)
       (whole_records model sets guess (asked_of op ty left right) pieces h)
 
-  -- the same of what a call answers
+  -- the same for the result of a call
   pub guessed_answers : {E : Type 0} → ¬ IsFollowedNear sets op left right → (result : Result (Vec Piece Global) E)
       → IfOk result (λ pieces. IsWholeGuess model sets guess (asked_of op ty left right) pieces.items)
       → IfOk result (λ pieces. AreRecordedAnswers model sets guess (question.Binary op ty left right) pieces.items)
@@ -85,7 +85,7 @@ module _ (model : DataModel) (sets : Sets) (guess : ℕ) (op : BinOp) (ty : IntT
     guesses = guesses;
   }
 
-  -- an operator that is followed where its operands are over one symbol
+  -- an operator that is followed if its operands are over one symbol
   pub summed_split : (number : Valuation → ℤ) → ((v : Valuation) → exact model op ty (value_of v left) (value_of v right) ≡ number v)
       → (AreOverOne sets left right → IsFollowedNear sets op left right) → (IsFollowedNear sets op left right → AreOverOne sets left right)
       → (sum : Option Lin) (pieces : List Piece) → IsSumOf left right number sum → AreSummed model sets guess ty sum (asked_of op ty left right) pieces

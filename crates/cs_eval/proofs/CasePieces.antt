@@ -85,7 +85,7 @@ case_at_most (one ∷ cases) x = by (int_eq one.value x) (case_at_most cases x)
     by false h = omega (arith, h)
 
 module _ (sets : Sets) (term : Lin) (cases : List SwitchCase) (n : ℕ) (pieces : List Piece) (h : AreFirst sets term cases n pieces) where
-  -- no number takes the case
+  -- no number takes this case
   pub skipped : ((v : Valuation) → Fits v sets → case_of cases (value_of v term) ≢ n) → AreFirst sets term cases (suc n) pieces
   skipped never = record {
     each = h.each;
@@ -99,7 +99,7 @@ module _ (sets : Sets) (term : Lin) (cases : List SwitchCase) (n : ℕ) (pieces 
       more : (piece : Piece) → IsBefore n piece → IsBefore (suc n) piece
       more piece b = let less = b.before in record { number = b.number; before = omega arith; shown = b.shown }
 
-  -- the numbers of a set take it
+  -- the numbers of this set take it
   module _ (set : List Interval) (takes : (v : Valuation) → Fits v sets
       → (contains set (value_of v term) ≡ true) ↔ (case_of cases (value_of v term) ≡ n)) where
     piece_of : (after : Sets) → Keeps sets term set after → (model : DataModel) (guess : ℕ)
@@ -149,7 +149,7 @@ module _ (sets : Sets) (term : Lin) (cases : List SwitchCase) (n : ℕ) (pieces 
         append_none (x ∷ xs) = ap (λ (ys : List Piece). x ∷ ys) (append_none xs)
     pushed (Some after) m = one_more after m
 
--- the pieces of all cases and of none
+-- the pieces of all cases and of no case
 pub all_cases : (sets : Sets) (term : Lin) (cases : List SwitchCase) (pieces : List Piece)
     → AreFirst sets term cases (suc (length cases)) pieces → AreCases sets term cases pieces
 all_cases sets term cases pieces h model guess = record {
@@ -161,7 +161,7 @@ all_cases sets term cases pieces h model guess = record {
 }
 
 module _ (cases : List SwitchCase) (n : ℕ) (value : ℤ) (left : List Interval) (at : IsCaseAt cases n value) (are : AreLeft cases n left) where
-  -- the value of an earlier case
+  -- what remains doesn't contain the value of an earlier case
   pub never_taken : contains left value ≡ false → (x : ℤ) → IsInside x → case_of cases x ≢ n
   never_taken out x inside e =
       let same : x ≡ value = at.alone x e in
@@ -223,7 +223,7 @@ module _ (cases : List SwitchCase) (n : ℕ) (value : ℤ) (left : List Interval
           no : (b : Bool) → b ≡ false → b ≡ true → ⊥
           no b e f = let clash : false ≡ true = sym e ∙ f in absurd (cc)
 
--- a case that no number takes which is left
+-- a case whose value isn't among the remaining numbers: no number takes it
 pub pushed_none : (sets : Sets) (term : Lin) (n : ℕ) (value : ℤ) (left : List Interval) (pieces : List Piece)
     → IsTermBetween sets LOWEST HIGHEST term → contains left value ≡ false → IsCasePushed sets term n value left left pieces pieces
 pushed_none sets term n value left pieces wide out = record {
@@ -233,7 +233,7 @@ pushed_none sets term n value left pieces wide out = record {
       (Ends_wide (value_of v term) (value_between sets LOWEST HIGHEST term v wide fits)));
 }
 
--- a case that some number may take
+-- a case whose value is among the remaining numbers
 pub pushed_some : (sets : Sets) (term : Lin) (n : ℕ) (value : ℤ) (left taken rest : List Interval) (kept : Option Sets) (before after : List Piece)
     → IsInside value → contains left value ≡ true → ((x : ℤ) → contains taken x ≡ (int_le value x && int_le x value))
     → ((x : ℤ) → contains rest x ≡ (contains left x && not (contains taken x)))
@@ -248,7 +248,7 @@ pushed_some sets term n value left taken rest kept before after inside member nu
       keeps);
 }
 
--- all numbers inside are left at first
+-- at first all numbers inside remain
 pub all_left : (cases : List SwitchCase) (left : List Interval)
     → ((x : ℤ) → contains left x ≡ (int_le (neg_ℤ (pos (2 ^ 126))) x && int_le x (pos (2 ^ 126)))) → AreLeft cases 0 left
 all_left cases left numbers x inside = (λ t. omega arith, λ least. numbers x ∙ both x inside)
@@ -256,7 +256,7 @@ all_left cases left numbers x inside = (λ t. omega arith, λ least. numbers x �
     both : (x : ℤ) → IsInside x → (int_le (neg_ℤ (pos (2 ^ 126))) x && int_le x (pos (2 ^ 126))) ≡ true
     both x h = let a = h.0 in let b = h.1 in grind (arith, ints)
 
--- the piece of no case is the last
+-- the piece of no case comes last
 pub last_pushed : (sets : Sets) (term : Lin) (cases : List SwitchCase) (left : List Interval) (kept : Option Sets) (before after : List Piece)
     → IsTermBetween sets LOWEST HIGHEST term → AreLeft cases (length cases) left → AreFirst sets term cases (length cases) before
     → MatchOption kept (RulesOut sets term left) (Keeps sets term left)
@@ -315,7 +315,7 @@ case_at (first ∷ cases) zero one e =
     subst (λ (k : SwitchCase). IsCaseAt (first ∷ cases) 0 k.value) (same_Some first one e) (first_case first cases)
 case_at (first ∷ cases) (suc n) one e = next_case first cases n one.value (case_at cases n one e)
 
--- the pieces with the label and the number that are known
+-- the pieces with a known label and number
 pub case_made : (n : ℕ) (shown : Shown) (kept : Option Sets) (before after : List Piece) → shown.label ≡ label.Case n
     → shown.answer ≡ number_term (pos 0)
     → after ≡ before ++ unguessed_if shown.label shown.answer kept → after ≡ before ++ unguessed_if (label.Case n) (number_term (pos 0)) kept

@@ -18,7 +18,7 @@ use Rattle.cs_eval.specs.Operands.{IsBetween, IsTermBetween, IsTermInside, IsRea
 use Rattle.cs_eval.proofs.Ends.{wide, wide_integer}
 use Rattle.cs_eval.proofs.OperandValues.{none_is}
 
--- a term over a declared symbol, with its values over the numbers of that
+-- a term over a declared symbol, with its values over that symbol's numbers
 pub over_symbol : (sets : Sets) (low high : ℤ) (term : Lin) (s : Sym) (range : List Interval) → term.sym ≡ Some s → set_of sets s.0 ≡ Some range
     → IsTerm term → ((x : ℤ) → IsTrue (contains range x) → IsBetween low high (value_at term x)) → IsTermBetween sets low high term
 over_symbol sets low high term s range over known is_term h = record {
@@ -49,14 +49,14 @@ from_ends term range low high least greatest first last x is_term from upto at_f
     (subst (λ (n : ℤ). IsBetween low high n) at_first a) (subst (λ (n : ℤ). IsBetween low high n) at_last b) in
     subst (λ (n : ℤ). IsBetween low high n) (sym (value_at-affine term x is_term)) there
 
--- what `Constraints::prepared` asks of the values
+-- what `Constraints::prepared` requires of the values
 pub wide_values : (sets : Sets) (term : Lin) → IsTermBetween sets LOWEST HIGHEST term → HasValuesInside sets term
 wide_values sets term h s set e known x member = wide (value_at term x) (h.values s set e known x member)
 
 pub integer_values : (sets : Sets) (term : Lin) → HasIntegers sets term → HasValuesInside sets term
 integer_values sets term h s set e known x member = wide (value_at term x) (wide_integer (value_at term x) (h.values s set e known x member))
 
--- a prepared term's symbol has two numbers
+-- the symbol of a prepared term has at least two numbers
 pub prepared_several : (sets : Sets) (term made : Lin) → ((number : ℤ) → HasOneNumber sets term.sym number → made.sym ≡ None)
     → (¬ ((number : ℤ) × HasOneNumber sets term.sym number) → IsSameFunction made term) → IsSeveral sets made
 prepared_several sets term made constant function number one =

@@ -26,7 +26,7 @@ use Rattle.cs_eval.proofs.OperandValues.{decide}
 use Rattle.cs_eval.proofs.Signs.{compares-diff, same_decision}
 use Rattle.cs_eval.proofs.TruthPieces.{IsTruth, is_true-number, where_split, all_split, guess_split}
 
--- the term that a truth goes by is ready
+-- the term that decides a truth is ready
 pub followed_ready : (sets : Sets) (op : CmpOp) (term : Lin2) (followed : Followed) → IsFollowedBySign sets op term followed → IsReady sets followed
 followed_ready sets op term (Where by sum) h = h.inside
 followed_ready sets op term (AlwaysIs holds) h = tt

@@ -42,7 +42,7 @@ constant_split model sets guess asked of pieces constants same inhabited made =
     })
     made
 
--- a called function shows
+-- the answers for a called function
 pub callee_split : (model : DataModel) (sets : Sets) (guess function : ℕ) (answer : Lin) (pieces : List Piece)
     → AreInhabited sets → answer ≡ number_term (pos 0) → pieces ≡ unguessed (label.Callee function) answer sets ∷ []
     → AreAnswers model sets guess (question.Callee function) pieces

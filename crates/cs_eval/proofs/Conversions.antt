@@ -47,7 +47,7 @@ pub record IsConverting (model : DataModel) (before : Sets) (asking : Asking) (t
   pub asked_for : IsAskedFor model before asking asked
   pub unasked : asked ≡ None → (v : Valuation) → asking.IsFollowed v
 
--- a number of the type has quotient 0, and is itself when it is converted
+-- a number of the type has wrap quotient 0, and its conversion is the number itself
 greatest_is : (m b : ℕ) → b < m → pos (m - b - 1) ≡ ((pos 0 -ℤ pos b) +ℤ pos m) -ℤ pos 1
 greatest_is m b h = omega (arith, ints)
 
@@ -131,7 +131,7 @@ pub type_between : (model : DataModel) (ty : IntType) (numbers : Interval) (n : 
     → IsBetween numbers.low numbers.high n
 type_between model ty numbers n h r = (subst (λ (k : ℤ). k ≤ℤ n) (sym h.low) r.from_least, subst (λ (k : ℤ). n ≤ℤ k) (sym h.high) r.to_greatest)
 
--- an operation that may be guessed as any number of the type, in which its own result lies
+-- an operation that may be guessed as any number of the type, which has its own result
 pub type_guesses : (model : DataModel) (before : Sets) (asking : Asking) (ty : IntType)
     → ((v : Valuation) (n : ℤ) → InRange model ty n → asking.IsGuess v n) → ((v : Valuation) (n : ℤ) → asking.IsGuess v n → InRange model ty n)
     → ((v : Valuation) → InRange model ty (own_result model (asking.operation v))) → (numbers : Interval) → AreOfType model ty numbers
@@ -142,7 +142,7 @@ type_guesses model before asking ty to from own numbers h = record {
   own = λ v fits unfollowed. type_between model ty numbers (own_result model (asking.operation v)) h (own v);
 }
 
--- a prepared operand is fixed just where it has no symbol
+-- a prepared operand that is fixed has no symbol
 pub no_symbol : (sets : Sets) (term : Lin) → IsSeveral sets term → IsFixed sets term → term.sym ≡ None
 no_symbol sets term several (inl none) = none
 no_symbol sets term several (inr one) = absurd (several one.0 one.1)

@@ -46,7 +46,7 @@ quotient_neg : (a d : ℕ) → int_div (neg_ℤ (pos a)) (pos d) ≡ neg_ℤ (po
 quotient_neg zero d = rw (zero-div d) refl
 quotient_neg (suc a) d = refl
 
--- a multiple divided
+-- a multiple, divided
 pub multiple_quotient : (n : ℤ) (k : ℕ) → int_div (n *ℤ pos (suc k)) (pos (suc k)) ≡ n
 multiple_quotient (pos m) k =
     ap (λ (x : ℤ). int_div x (pos (suc k))) (pos-*ℤ-pos m (suc k)) ∙ ap (λ (j : ℕ). pos j) (mul-div_cancel m {n = suc k} (omega arith))
@@ -54,11 +54,11 @@ multiple_quotient (negsuc m) k =
     ap (λ (x : ℤ). int_div x (pos (suc k))) (negsuc-*ℤ-pos m (suc k)) ∙ quotient_neg (suc m * suc k) (suc k)
     ∙ ap (λ (j : ℕ). neg_ℤ (pos j)) (mul-div_cancel (suc m) {n = suc k} (omega arith))
 
--- a number without a rest is a multiple
+-- a number without a remainder is a multiple
 pub multiple_is : (a d : ℤ) → int_rem a d ≡ pos 0 → a ≡ int_div a d *ℤ d
 multiple_is a d e = let h = quot-rem a d in omega (arith, ints, h, e)
 
--- and a multiple has no rest
+-- and a multiple has no remainder
 pub multiple_rest : (a : ℤ) (k : ℕ) → IsMultiple a (pos (suc k)) → int_rem a (pos (suc k)) ≡ pos 0
 multiple_rest a k h =
     let same : a ≡ h.0 *ℤ pos (suc k) = h.1 in
@@ -102,7 +102,7 @@ positive : (n : ℕ) → n ≢ 0 → (k : ℕ) × (n ≡ suc k)
 positive zero some = absurd (some refl)
 positive (suc k) some = (k, refl)
 
--- what division makes of a difference
+-- the elements between two offsets, from the division of their difference in bytes
 pub elements_of : (left right bytes : Lin) (size : ℕ) (between made : Option Lin) → size ≢ 0
     → IsSumOf left right (λ v. value_of v left -ℤ value_of v right) between → between ≡ Some bytes
     → MatchOption made (¬ (IsMultiple bytes.value (pos size) × IsMultiple bytes.slope (pos size))) (IsDividedTerm bytes (pos size))
@@ -121,7 +121,7 @@ elements_of left right bytes size between (Some made) some h e divided =
     let k = positive size some in
     divided_elements left right bytes made size k.0 k.1 (λ v. h.value bytes v e) (h.one bytes e) divided
 
--- elements without bytes
+-- elements of size 0
 pub no_elements : (left right made : Lin) (size : ℕ) → size ≡ 0 → ((v : Valuation) → value_of v made ≡ pos 0) → AreElements left right size made
 no_elements left right made size e value =
     subst (λ (n : ℕ). AreElements left right n made) (sym e) (record { value = value; followed = inl refl })
@@ -144,7 +144,7 @@ module _ (model : DataModel) (sets : Sets) (guess : ℕ) (left right : Lin) (siz
     records = unguessed_records (IsRecordOfQuestion model sets (question.Difference left right size)) (label.Wrap Same) made sets pieces shape;
   }
 
-  -- a term over two numbers of a symbol has a rest at one of two of them
+  -- a difference whose constants aren't all multiples of the size isn't a multiple for each number of its symbol
   module _ (rest : HasRest left right size) (v : Valuation) (fits : Fits v sets) where
     at_multiple : IsDivided sets left right size → (w : Valuation) → FitsFixed w sets → IsMultiple (value_of w rest.bytes) (pos size)
     at_multiple divided w fixed = let n = divided w fixed in (n.0, rest.value w ∙ n.1)
@@ -211,7 +211,7 @@ module _ (model : DataModel) (sets : Sets) (guess : ℕ) (left right : Lin) (siz
     | inr rest ↦ undivided rest v fits over.1
   ]
 
--- a difference of offsets lies in its type, and so does its quotient
+-- a difference of offsets, divided by a size, is in its type
 own_between : (model : DataModel) (a b : ℤ) (size : ℕ) → size ≢ 0
     → IsBetween (neg_ℤ (pos (half_difference_of model))) (pos (half_difference_of model)) a
     → IsBetween (neg_ℤ (pos (half_difference_of model))) (pos (half_difference_of model)) b

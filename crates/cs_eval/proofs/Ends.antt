@@ -19,7 +19,7 @@ use Rattle.cs_eval.specs.Operands.{IsBetween, LOWEST, HIGHEST, IsAttainedFrom, H
 use Rattle.cs_eval.specs.Parts.{with_number}
 use Rattle.cs_eval.proofs.OperandValues.{value_of-none, with_number-same, with_number-other, fits_with}
 
--- the bounds of order tests lie inside those of sets
+-- the bounds of order tests are inside those of sets
 pub wide : (n : ℤ) → IsBetween LOWEST HIGHEST n → IsInside n
 wide n h = (omega (arith, ints, h.0), omega (arith, ints, h.1))
 

@@ -34,7 +34,7 @@ to_from : (low high : ℤ) (numbers : Interval) (n : ℤ) → AreFromTo low high
 to_from low high numbers n h b = (subst (λ (k : ℤ). k ≤ℤ n) (sym h.low_is) b.0, subst (λ (k : ℤ). n ≤ℤ k) (sym h.high_is) b.1)
 
 module _ (model : DataModel) (ty : IntType) (m : ℕ) (inside : InRange model ty (pos m)) where
-  -- the numbers up to a mask are in its type
+  -- the numbers from 0 to a mask are in its type
   below_in_type : (n : ℤ) → IsBetween (pos 0) (pos m) n → InRange model ty n
   below_in_type n b = record {
     from_least = least (negatives_of model ty) b.0;
@@ -78,7 +78,7 @@ module _ (model : DataModel) (sets : Sets) (guess : ℕ) (ty : IntType) (left ri
   own_in : (v : Valuation) → InRange model ty (wrapped model ty (exact model And ty (value_of v left) (value_of v right)))
   own_in v = wrapped-InRange model ty (exact model And ty (value_of v left) (value_of v right))
 
-  -- the left operand is the mask
+  -- the left operand is the constant mask
   left_mask : (s : Sym) → left.sym ≡ None → right.sym ≡ Some s → (z : ℤ) → left.value ≡ z → AreOfMask model ty (Some z) numbers
       → AreGuesses model sets (binary_asking model sets And ty left right) numbers
   left_mask s e f (pos m) is are =
@@ -107,7 +107,7 @@ module _ (model : DataModel) (sets : Sets) (guess : ℕ) (ty : IntType) (left ri
     own = λ v fits unfollowed. type_between model ty numbers _ are (own_in v);
   }
 
-  -- the right one is
+  -- the right operand is
   right_mask : (s : Sym) → left.sym ≡ Some s → right.sym ≡ None → (z : ℤ) → right.value ≡ z → AreOfMask model ty (Some z) numbers
       → AreGuesses model sets (binary_asking model sets And ty left right) numbers
   right_mask s e f (pos m) is are =

@@ -15,7 +15,7 @@ use Rattle.cs_constraints.proofs.PreparedTerms.{prepared_add}
 use Rattle.cs_eval.specs.Operands.{IsBetween, IsTermBetween, IsReadyOperand, LOWEST, HIGHEST}
 use Rattle.cs_eval.proofs.Ends.{wide_integer}
 
--- an operand lies within the bounds of order tests
+-- an operand is within the bounds of order tests
 pub ready_between : (sets : Sets) (term : Lin) → IsReadyOperand sets term → IsTermBetween sets LOWEST HIGHEST term
 ready_between sets term h = record {
   is_term = h.prepared.is_term;

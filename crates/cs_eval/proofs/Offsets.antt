@@ -30,14 +30,14 @@ use Rattle.cs_eval.proofs.OperandValues.{value_between}
 use Rattle.cs_eval.proofs.OnePiece.{one_exact_split, one_guess_split}
 use Rattle.cs_eval.proofs.Records.{recorded, sum_is, unguessed_records, whole_records}
 
--- a number times one above 0 is 0 only if it is
+-- a number times a positive one is 0 only if the number is 0
 factor_zero : (n : ℤ) (k : ℕ) → n *ℤ pos (suc k) ≡ pos 0 → n ≡ pos 0
 factor_zero n k e =
     let size : unsigned_abs n ≤ 0 =
     subst (λ (x : ℤ). unsigned_abs n ≤ unsigned_abs x) e (abs-product n (pos (suc k)) (λ zero_is. omega (arith, ints, zero_is))) in
     omega (arith, ints, size)
 
--- a scaled term has the same symbol, but that none is left where the factor is 0
+-- a scaled term has the same symbol, but none if the factor is 0
 module _ (amount by : Lin) (size : ℕ) (is_amount : IsTerm amount) (is_by : IsTerm by) (slope : by.slope ≡ amount.slope *ℤ pos size)
     (symbol : HasNoOtherSymbol by.sym amount.sym) where
   scaled_none : size ≡ 0 → by.sym ≡ None
@@ -84,7 +84,7 @@ moved_offset offset amount by size sum is_amount is_by slope symbol value h = re
       subst (λ (o : Option Sym). HaveTwoSymbols offset.sym o) (scaled_symbol amount by size is_amount is_by slope symbol k e) two,
     )
 
--- a number within the bounds of offsets stays
+-- a number within the bounds of offsets is kept
 pub within_itself : (model : DataModel) (n : ℤ) → IsBetween (neg_ℤ (pos (offset_bound_of model))) (pos (offset_bound_of model)) n
     → within_bound model n ≡ n
 within_itself model n h =

@@ -21,14 +21,14 @@ use Rattle.cs_eval.specs.Parts.{unguessed}
 use Rattle.cs_eval.specs.Splits.{Asking, IsOfGuess, IsPieceWith, IsPieceOf, IsIn, IsSplit}
 use Rattle.cs_eval.proofs.TruthPieces.{declared_fits, fits_declared}
 
--- an operation that is followed under each valuation that fits, and always shows the same
+-- an operation that is followed under each valuation that fits, and always shows the same label
 pub record IsOneExact (model : DataModel) (sets : Sets) (asking : Asking) (what : Label) (answer : Lin) : Type 0 where
   pub inhabited : AreInhabited sets
   pub followed : (v : Valuation) → Fits v sets → asking.IsFollowed v
   pub shown : (v : Valuation) → Fits v sets → shows model (asking.operation v) None ≡ what
   pub own : (v : Valuation) → Fits v sets → value_of v answer ≡ own_result model (asking.operation v)
 
--- an operation that isn't followed under any valuation that fits, and may be guessed as the numbers from the one to the other
+-- an operation that isn't followed under any valuation that fits, and may be guessed as each number of an interval
 pub record IsOneGuess (model : DataModel) (sets : Sets) (asking : Asking) (what : Label) (numbers : Interval) : Type 0 where
   pub unfollowed : (v : Valuation) → Fits v sets → ¬ asking.IsFollowed v
   pub shown : (v : Valuation) (number : ℤ) → shows model (asking.operation v) (Some number) ≡ what

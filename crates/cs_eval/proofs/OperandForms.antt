@@ -23,17 +23,17 @@ decide_int x y = by (int_eq x y) refl
     by true e = inl (grind (arith, ints))
     by false e = inr (λ same. grind (arith, ints))
 
--- a valuation that fits gives symbols with one number that number
+-- under a valuation that fits, a symbol that has only one number has that number
 pub fits_fixed : (v : Valuation) (sets : Sets) → Fits v sets → FitsFixed v sets
 fits_fixed v sets fits s set number known only = only.alone (v s) (fits s set known)
 
--- the number of a symbol that has one
+-- the only number of a symbol
 one_number : (v : Valuation) (sets : Sets) (s : Sym) (number : ℤ) → FitsFixed v sets → HasOneNumber sets (Some s) number → v s.0 ≡ number
 one_number v sets s number fits one =
     fits s.0 one.set number (ap (λ (t : Sym). set_of sets t.0) (same_Some s one.sym one.symbol_is) ∙ one.set_is) one.only
 
 module _ (sets : Sets) (given made : Lin) (form : IsFormOf sets given made) (w : Valuation) (w_fits : Fits w sets) where
-  -- a symbol that has one number if it doesn't have several
+  -- a symbol has only one number if this can't be refuted
   stable : (s : Sym) → given.sym ≡ Some s → (o : Option (List Interval)) → set_of sets s.0 ≡ o
       → ¬ ¬ ((number : ℤ) × HasOneNumber sets given.sym number)
       → (number : ℤ) × HasOneNumber sets given.sym number
@@ -102,12 +102,12 @@ module _ (sets : Sets) (given made : Lin) (form : IsFormOf sets given made) (w :
           value_of-symbol v made s e ∙ (form.function (not_one s e)).values (v s.0)
           ∙ sym (value_of-symbol v given s (form_symbol s e))
 
--- an operand whose symbol has several numbers is fixed where it has no symbol
+-- if an operand whose symbol has several numbers is fixed, it has no symbol
 pub fixed_none : (sets : Sets) (term : Lin) → IsSeveral sets term → IsFixed sets term → term.sym ≡ None
 fixed_none sets term several (inl none) = none
 fixed_none sets term several (inr one) = absurd (several one.0 one.1)
 
--- an operand and its form
+-- an operand and its prepared form
 pub record IsReadyForm (sets : Sets) (given made : Lin) : Type 0 where
   pub to_given : IsFixed sets made → IsFixed sets given
   pub to_made : IsFixed sets given → IsFixed sets made

@@ -17,7 +17,7 @@ use Rattle.cs_constraints.proofs.Assuming.{fitting, value_of-symbol}
 use Rattle.cs_eval.specs.Operands.{IsBetween, IsTermBetween, IsTermInside, LOWEST, HIGHEST}
 use Rattle.cs_eval.specs.Parts.{with_number}
 
--- whether two numbers are one
+-- whether two numbers are equal
 pub decide : (m n : ℕ) → (m ≡ n) ⊎ (m ≢ n)
 decide m n = elim (eqb_tells m n) [ inl same ↦ inl same.1 | inr differ ↦ inr differ.1 ]
 
@@ -29,7 +29,7 @@ none_is (Some s) h = absurd (cc)
 pub value_of-none : (v : Valuation) (term : Lin) → term.sym ≡ None → value_of v term ≡ term.value
 value_of-none v term e = ap (λ (o : Option Sym). value_with v o term.slope term.at term.value) e
 
--- under each valuation that fits, an operand's value lies between its bounds
+-- under each valuation that fits, an operand's value is between its bounds
 pub value_between : (sets : Sets) (low high : ℤ) (term : Lin) (v : Valuation) → IsTermBetween sets low high term → Fits v sets
     → IsBetween low high (value_of v term)
 value_between sets low high term v h fits = by term.sym refl
@@ -51,7 +51,7 @@ with_number-same guess number v s e = ap (λ (b : Bool). if b then number else v
 pub with_number-other : (guess : ℕ) (number : ℤ) (v : Valuation) (s : ℕ) → s ≢ guess → with_number guess number v s ≡ v s
 with_number-other guess number v s d = ap (λ (b : Bool). if b then number else v s) (ne_eqb s guess d)
 
--- a valuation that fits still does with another number of a symbol's set
+-- a valuation that fits still fits with another number of a symbol's set
 pub fits_with : (sets : Sets) (s : ℕ) (set : List Interval) (x : ℤ) (v : Valuation) → set_of sets s ≡ Some set → contains set x ≡ true
     → Fits v sets
     → Fits (with_number s x v) sets
@@ -62,7 +62,7 @@ fits_with sets s set x v known member fits other found e = elim (decide other s)
   | inr differ ↦ ap (contains found) (with_number-other s x v other differ) ∙ fits other found e
 ]
 
--- the value of a sum over one symbol lies inside where those of its parts lie within the bounds of order tests
+-- the value of a sum over one symbol is inside if those of its parts are within the bounds of order tests
 pub sum_inside : (sets : Sets) (term : Lin2) (sum : Lin) → AreInhabited sets → IsTermBetween sets LOWEST HIGHEST term.first
     → IsTermBetween sets LOWEST HIGHEST term.second → IsTerm sum → ((v : Valuation) → value_of v sum ≡ value_of_sum v term)
     → ((s : Sym) → sum.sym ≡ Some s → (term.first.sym ≡ Some s) ⊎ (term.second.sym ≡ Some s)) → IsTermInside sets sum

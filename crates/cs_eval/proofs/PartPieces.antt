@@ -65,7 +65,7 @@ pub raised_term : (given : Lin) (by : ℤ) (made : Lin) → IsRaised given by ma
 raised_term given by made h t =
     subst (λ (o : Option Sym). IsTermWith o made.slope) (sym h.symbol) (subst (λ (n : ℤ). IsTermWith given.sym n) (sym h.slope) t)
 
--- a number less whole turns
+-- a number minus its wrap quotient times the modulus is the wrapped number
 wrapped_by : (model : DataModel) (ty : IntType) (n q by : ℤ) → wrap_quotient model ty n ≡ q → by ≡ neg_ℤ (q *ℤ pos (modulus_of model ty))
     → n +ℤ by ≡ wrapped model ty n
 wrapped_by model ty n q by e f =
@@ -78,7 +78,7 @@ module _ (model : DataModel) (ty : IntType) (exact : Lin) (range : List Interval
   same_quotient : (x : ℤ) → product_quotient_of model ty exact (pos 1) x ≡ quotient_of model ty exact x
   same_quotient x = ap (wrap_quotient model ty) (times_one (value_at exact x))
 
-  -- the numbers with this quotient, and the exact result less so many turns there
+  -- the part of the range with this quotient, and the wrapped result there
   pub converted_part : (q by : ℤ) (numbers : List Interval) (product : Lin) (made : Option Part) → IsPiece (quotient_of model ty exact) range q numbers
       → IsRaised exact by product → by ≡ neg_ℤ (q *ℤ pos (modulus_of model ty))
       → MatchOption made (IsEmpty numbers) (λ part. (part.range ≡ numbers) × (part.product ≡ product) × IsInhabited numbers)

@@ -6,11 +6,11 @@ use Rattle.cs_events.specs.declared.event.Label.{Label}
 use Rattle.cs_eval.specs.declared.piece.Piece.{Piece}
 use Rattle.cs_eval.specs.Splits.{Asking, Each, HaveOwnLabels, IsCovered}
 
--- each of the pieces shows the label
+-- each of the pieces shows this label
 abbrev pub AllShow : Label → List Piece → Type 0
 AllShow label pieces = Each (λ piece. piece.label ≡ label) pieces
 
--- none of them does
+-- none of the pieces shows it
 abbrev pub NoneShows : Label → List Piece → Type 0
 NoneShows label pieces = Each (λ piece. piece.label ≢ label) pieces
 

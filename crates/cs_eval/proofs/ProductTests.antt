@@ -32,7 +32,7 @@ use Rattle.cs_eval.proofs.OperandValues.{value_between, value_of-none}
 use Rattle.cs_eval.proofs.PartPieces.{raised_value}
 use Rattle.cs_eval.proofs.TruthPieces.{IsTruth, is_true-number, where_split, all_split, guess_split}
 
--- the bounds of counts lie inside those of order tests
+-- the bounds of counts are inside those of order tests
 pub counts_wide : (sets : Sets) (term : Lin) → IsTermOfCounts sets term → IsTermBetween sets LOWEST HIGHEST term
 counts_wide sets term h = record {
   is_term = h.is_term;
@@ -49,7 +49,7 @@ same_truth true b f g = sym (f refl)
 same_truth false true f g = g refl
 same_truth false false f g = refl
 
--- a number that isn't below 0 has a product within a bound exactly where it is at most the quotient
+-- the product of a number from 0 and a positive factor is within a bound exactly if the number is at most the quotient
 pub few_by_quotient : (bound : ℕ) (n factor : ℤ) → pos 0 ≤ℤ n → pos 0 <ℤ factor
     → int_le (n *ℤ factor) (pos bound) ≡ int_le (n +ℤ neg_ℤ (int_div (pos bound) factor)) (pos 0)
 few_by_quotient bound (negsuc m) factor low above = absurd (omega (arith, ints, low))
@@ -77,7 +77,7 @@ few_by_quotient bound (pos m) (pos (suc k)) low above =
 negative_few : (n bound : ℕ) → int_le (neg_ℤ (pos n)) (pos bound) ≡ true
 negative_few n bound = grind (arith, ints)
 
--- a product with a factor that isn't above 0
+-- the product of a number from 0 and a factor up to 0 is within each bound
 pub few_by_none : (bound : ℕ) (n factor : ℤ) → pos 0 ≤ℤ n → factor ≤ℤ pos 0 → int_le (n *ℤ factor) (pos bound) ≡ true
 few_by_none bound (negsuc m) factor low none = absurd (omega (arith, ints, low))
 few_by_none bound (pos m) (pos (suc k)) low none = absurd (omega (arith, ints, none))
@@ -85,7 +85,7 @@ few_by_none bound (pos m) (pos zero) low none = ap (λ (n : ℤ). int_le n (pos 
 few_by_none bound (pos m) (negsuc k) low none =
     ap (λ (n : ℤ). int_le n (pos bound)) (pos-*ℤ-negsuc m k) ∙ negative_few (m * suc k) bound
 
--- products of numbers that aren't below 0 grow with them
+-- products of numbers from 0 grow with these
 product_grows : (a b m n : ℤ) → pos 0 ≤ℤ a → a ≤ℤ m → pos 0 ≤ℤ b → b ≤ℤ n → (a *ℤ b) ≤ℤ (m *ℤ n)
 product_grows (negsuc a) b m n la ha lb hb = absurd (omega (arith, ints, la))
 product_grows (pos a) (negsuc b) m n la ha lb hb = absurd (omega (arith, ints, lb))
@@ -105,7 +105,7 @@ few_below x y b h t = grind (arith, ints)
 many_above : (x y b : ℤ) → x ≤ℤ y → int_le x b ≡ false → int_le y b ≡ false
 many_above x y b h t = grind (arith, ints)
 
--- the ends of both factors
+-- products between the ends of both factors
 module _ (model : DataModel) (sets : Sets) (count size : Lin) (c s : Interval) (counts : IsTermOfCounts sets count) (sizes : IsTermOfCounts sets size)
     (c_ends : HasEnds sets count c) (s_ends : HasEnds sets size s) where
   count_low : (v : Valuation) → Fits v sets → pos 0 ≤ℤ value_of v count
@@ -114,7 +114,7 @@ module _ (model : DataModel) (sets : Sets) (count size : Lin) (c s : Interval) (
   size_low : (v : Valuation) → Fits v sets → pos 0 ≤ℤ value_of v size
   size_low v fits = (value_between sets (pos 0) (pos 18446744073709551615) size v sizes fits).0
 
-  -- an end is a value
+  -- an end is the value under some valuation
   count_end : (v : Valuation) → Fits v sets → pos 0 ≤ℤ c.low
   count_end v fits = let p = c_ends.low v fits in subst (λ (n : ℤ). pos 0 ≤ℤ n) p.value (count_low p.at p.fits)
 
@@ -180,7 +180,7 @@ pub no_constant : (term : Lin) → constant_of term ≡ None → ¬ (term.sym �
 no_constant term e none =
     none-some term.value (sym e ∙ ap (λ (o : Option Sym). constant_with o term.value) none)
 
--- a term with a factor above 0
+-- a term with a positive factor
 pub by_quotient : (model : DataModel) (sets : Sets) (term above : Lin) (factor : ℤ) → IsTermOfCounts sets term → pos 0 <ℤ factor
     → IsRaised term (neg_ℤ (int_div (pos (product_bound_of model)) factor)) above → IsTermInside sets above
     → IsFollowedByFactor model sets term factor (Where AtMost above)
@@ -197,7 +197,7 @@ quotient_low : (b : ℕ) (factor : ℤ) → pos 0 <ℤ factor → pos 0 ≤ℤ i
 quotient_low b (negsuc k) above = absurd (omega (arith, ints, above))
 quotient_low b (pos k) above = omega (arith, ints)
 
--- the negative quotient as the code has it
+-- the negative quotient as the code computes it
 pub raised_by : (term above : Lin) (bound factor : ℤ) (b : ℕ) → FitsSigned w128 bound → FitsSigned w128 factor → bound ≡ pos b → pos 0 <ℤ factor
     → IsRaised term (to_z w128 (of_z w128 (pos 0 -ℤ to_z w128 (of_z w128 (int_div (to_z w128 (of_z w128 bound)) (to_z w128 (of_z w128 factor))))))) above
     → IsRaised term (neg_ℤ (int_div (pos b) factor)) above
@@ -218,14 +218,14 @@ raised_by term above bound factor b f g e positive h =
     fits_below : (z : ℤ) → pos 0 ≤ℤ z → FitsSigned w128 z → FitsSigned w128 (pos 0 -ℤ z)
     fits_below z low f = omega (arith, ints, low, f)
 
--- a term with another factor
+-- a term with a factor up to 0
 pub by_no_factor : (model : DataModel) (sets : Sets) (term : Lin) (factor : ℤ) → IsTermOfCounts sets term → factor ≤ℤ pos 0
     → IsFollowedByFactor model sets term factor (AlwaysIs true)
 by_no_factor model sets term factor counts none v fits =
     few_by_none (product_bound_of model) (value_of v term) factor
     (value_between sets (pos 0) (pos 18446744073709551615) term v counts fits).0 none
 
--- the size is a constant
+-- the size is constant
 pub product_by_size : (model : DataModel) (sets : Sets) (count size : Lin) (factor : ℤ) (followed : Followed) → size.sym ≡ None → size.value ≡ factor
     → IsFollowedByFactor model sets count factor followed → IsFollowedByProduct model sets count size followed
 product_by_size model sets count size factor (Where op by) none e h = record {
@@ -240,7 +240,7 @@ product_by_size model sets count size factor (AlwaysIs holds) none e h = (
 )
 product_by_size model sets count size factor No none e h = absurd h
 
--- the count is a constant
+-- the count is constant
 pub product_by_count : (model : DataModel) (sets : Sets) (count size : Lin) (factor : ℤ) (followed : Followed) → count.sym ≡ None
     → count.value ≡ factor
     → IsFollowedByFactor model sets size factor followed → IsFollowedByProduct model sets count size followed
@@ -260,7 +260,7 @@ product_by_count model sets count size factor (AlwaysIs holds) none e h = (
 )
 product_by_count model sets count size factor No none e h = absurd h
 
--- neither is
+-- neither is constant
 pub product_by_ends : (model : DataModel) (sets : Sets) (count size : Lin) (followed : Followed) → IsSeveral sets count → IsSeveral sets size
     → ¬ (count.sym ≡ None) → ¬ (size.sym ≡ None) → IsFollowedByEnds model sets count size followed
     → IsFollowedByProduct model sets count size followed

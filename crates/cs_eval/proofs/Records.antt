@@ -37,7 +37,7 @@ use Rattle.cs_eval.specs.Wraps.{IsOfPart, IsWholeGuess, IsOfFar, AreOfParts, Are
 use Rattle.cs_eval.proofs.PieceLists.{each_append}
 use Rattle.cs_eval.proofs.Signs.{compares-diff}
 
--- what an unknown record is said to be, where there is one
+-- what a piece records about its guess, if it has one
 abbrev pub Records : (Guessed → Type 0) → Piece → Type 0
 Records Is piece = IfSome piece.guessed Is
 
@@ -59,7 +59,7 @@ module _ (Is : Guessed → Type 0) where
       subst (λ (ps : List Piece). Each (Records Is) ps) (sym made)
       (each_append (Records Is) (unguessed_if held a holds) (unguessed_if failed b fails) (half_records held a holds) (half_records failed b fails))
 
-  -- nothing is guessed where the operation is followed under each valuation
+  -- nothing is guessed if the operation is followed under each valuation
   module _ (model : DataModel) (sets : Sets) (guess : ℕ) (asking : Asking) (followed : (v : Valuation) → asking.IsFollowed v) where
     with_records : (piece : Piece) (noted : Option Guessed) → IsPieceWith model sets guess asking noted piece → (v : Valuation)
         → Fits v piece.constraints → IfSome noted Is
@@ -88,7 +88,7 @@ range_ends sets symbol s ends set is known least greatest = record {
   none = λ e. absurd (none-some s (sym e ∙ is));
 }
 
--- a guess of the operation
+-- the pieces of a guessed operation
 module _ (model : DataModel) (sets : Sets) (guess : ℕ) (inexact : Inexact) where
   none_records : (pieces : List Piece) → pieces ≡ [] → Each (RecordsInexact sets inexact) pieces
   none_records pieces made = subst (λ (ps : List Piece). Each (RecordsInexact sets inexact) ps) (sym made) tt
@@ -135,7 +135,7 @@ module _ (model : DataModel) (sets : Sets) (guess : ℕ) (inexact : Inexact) whe
   converted_records ty exact pieces (inr (inl h)) = unguessed_records (IsRecordOf sets inexact) _ _ sets pieces h.made
   converted_records ty exact pieces (inr (inr h)) = product_records ty exact (pos 1) pieces h
 
--- a record of the operation is one of the question that the operation is
+-- a record of an operation is one of the question for that operation
 module _ (model : DataModel) (sets : Sets) (asked : Question) (inexact : Inexact) (what : Asks) (left right : Lin) (fact : Option Fact)
     (same : inexact ≡ record { asks = what; left = left; right = right; fact = fact })
     (is : IsInexactOf model sets asked what left right fact) where

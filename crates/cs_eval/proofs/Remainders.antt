@@ -28,7 +28,7 @@ use Rattle.cs_eval.proofs.BinaryPieces.{HasGuesses, binary_asking, not_fixed_rig
 use Rattle.cs_eval.proofs.Conversions.{between_type, type_between, in_type_wrapped}
 use Rattle.cs_eval.proofs.WrapPieces.{AreGuesses}
 
--- a type with a sign has as many numbers below 0 as others
+-- a signed type has as many numbers below 0 as others
 signed_half : (model : DataModel) (ty : IntType) → has_sign ty ≡ true → modulus_of model ty ≡ negatives_of model ty + negatives_of model ty
 signed_half Lp64 Long e = omega arith
 signed_half Ilp32 Long e = omega arith
@@ -47,7 +47,7 @@ signed_half model ULLong e = absurd (cc)
 unsigned_none : (model : DataModel) (ty : IntType) → has_sign ty ≡ false → negatives_of model ty ≡ 0
 unsigned_none model ty e = ap (λ (b : Bool). if b then 2 ^ (8 * bytes_of model ty - 1) else 0) e
 
--- the numbers nearer to 0 than one of the type are in the type, where those below 0 need a sign
+-- a number nearer to 0 than one of the type is in the type, if it isn't below 0 or the type is signed
 nearer_in_type : (model : DataModel) (ty : IntType) (d n : ℤ) → 0 < unsigned_abs d → InRange model ty d → IsRemainder ty d n → InRange model ty n
 nearer_in_type model ty d n some h r = by (has_sign ty) refl
   where
@@ -106,7 +106,7 @@ from_zero : (x y : ℤ) → pos 0 ≤ℤ x → pos 0 ≤ℤ int_rem x y
 from_zero (pos a) y h = rest_from a y
 from_zero (negsuc a) y h = absurd (omega (arith, ints, h))
 
--- what is left of a number of a type is a remainder
+-- the remainder of a number of a type
 own_remainder : (model : DataModel) (ty : IntType) (x d : ℤ) → 0 < unsigned_abs d → InRange model ty x
     → IsRemainder ty d (x -ℤ int_div x d *ℤ d)
 own_remainder model ty x d some h =

@@ -11,7 +11,7 @@ use Rattle.cs_eval.specs.declared.piece.Guessed.{Guessed}
 use Rattle.cs_eval.specs.Parts.{with_number}
 use Rattle.cs_eval.specs.Splits.{Asking, IsExact, IsOfGuess, IsPieceWith, IsPieceOf, Each, IsIn, IsCovered, IsSplit}
 
--- the two ask the same under each valuation that fits, and the first mentions no other symbol
+-- both ask the same under each valuation that fits, and the first one mentions no other symbols
 pub record IsSameAsking (before : Sets) (made given : Asking) : Type 0 where
   pub operation : (v : Valuation) → Fits v before → made.operation v ≡ given.operation v
   pub to_given : (v : Valuation) → Fits v before → made.IsFollowed v → given.IsFollowed v
@@ -76,7 +76,7 @@ module _ (model : DataModel) (before : Sets) (guess : ℕ) (made given : Asking)
     covered_same v fits (piece ∷ pieces) (inl h) = inl (in_same v fits piece.guessed piece h)
     covered_same v fits (piece ∷ pieces) (inr h) = inr (covered_same v fits pieces h)
 
-  -- a valuation that fits the constraints before, by one that fits a piece
+  -- a valuation that fits a piece fits the constraints before it
   fits_before : (piece : Piece) (guessed : Option Guessed) (v : Valuation) → IsPieceWith model before guess made guessed piece
       → Fits v piece.constraints → Fits v before
   fits_before piece None v e fits = (e.from v fits).0

@@ -31,7 +31,7 @@ use Rattle.cs_eval.proofs.OperandForms.{IsReadyForm, ready_form, over_one_given,
 use Rattle.cs_eval.proofs.SameAsking.{IsSameAsking, split_same}
 use Rattle.cs_eval.proofs.Signs.{same_decision}
 
--- two operands that have one value and are both fixed, or neither
+-- operands with one value that are both fixed, or both not
 pub record IsAlike (sets : Sets) (a b : Lin) : Type 0 where
   pub fixed : IsFixed sets a → IsFixed sets b
   pub back : IsFixed sets b → IsFixed sets a

@@ -38,7 +38,7 @@ sign_false AtLeast ends n h b = grind (arith, ints)
 sign_false Equal ends n h b = grind (arith, ints)
 sign_false Differs ends n h b = absurd (cc)
 
--- the ends of an equation say that all numbers are above 0 or all below
+-- the ends of an equation decide that all numbers are above 0, or all below
 above_or_below : (low high : ℤ) → (int_lt (pos 0) low || int_lt high (pos 0)) ≡ true
     → ((n : ℤ) → IsBetween low high n → compares More n (pos 0) ≡ true) ⊎ ((n : ℤ) → IsBetween low high n → compares Less n (pos 0) ≡ true)
 above_or_below low high h = by (int_lt (pos 0) low) refl
@@ -78,7 +78,7 @@ module _ (sets : Sets) (number : Numbers) (ends : Interval) (bounds : (v : Valua
   decided_false Equal h = apart h
   decided_false Differs h = absurd (cc)
 
--- the number takes either end
+-- the number reaches both ends
 module _ (sets : Sets) (number : Numbers) (ends : Interval) (v w : Valuation) (v_fits : Fits v sets) (w_fits : Fits w sets)
     (low : number v ≡ ends.low) (high : number w ≡ ends.high) where
   at_low : (op : CmpOp) (b : Bool) → Always sets op number b → compares op ends.low (pos 0) ≡ b
@@ -124,7 +124,7 @@ module _ (sets : Sets) (number : Numbers) (ends : Interval) (v w : Valuation) (v
   undecided Equal e f d = open_equation f d
   undecided Differs e f d = open_equation e d
 
--- a decision speaks of the numbers alone
+-- a decision depends only on the numbers
 pub same_decision : (sets : Sets) (op : CmpOp) (f g : Numbers) → ((v : Valuation) → Fits v sets → f v ≡ g v) → IsDecided sets op f
     → IsDecided sets op g
 same_decision sets op f g same d = by op d

@@ -11,7 +11,7 @@ use Rattle.cs_eval.specs.Wraps.{IsSumOf}
 pub none_it : (sum : Option Lin) → sum ≡ None → IsNone sum
 none_it sum e = subst (λ (o : Option Lin). IsNone o) (sym e) refl
 
--- what `add` of cs_terms gives
+-- what `add` of cs_terms returns
 pub sum_of : (left right first second : Lin) (number : Valuation → ℤ) (sum : Option Lin)
     → ((v : Valuation) → value_of v first +ℤ value_of v second ≡ number v) → first.sym ≡ left.sym → second.sym ≡ right.sym
     → IfSome sum (λ exact. (v : Valuation) → value_of v exact ≡ value_of v first +ℤ value_of v second)

@@ -67,7 +67,7 @@ only_number n x e = grind (arith, ints)
 only_itself : (n : ℤ) → (int_le n n && int_le n n) ≡ true
 only_itself n = grind (arith, ints)
 
--- the valuations that fit once a new symbol is declared
+-- the valuations that fit after a new symbol is declared
 module _ (before after : Sets) (guess : ℕ) (set : List Interval) (fresh : set_of before guess ≡ None) (narrowed : IsNarrowed before guess set after) where
   pub declared_fits : (v : Valuation) → Fits v after → Fits v before × (contains set (v guess) ≡ true)
   declared_fits v fits = (

@@ -15,7 +15,7 @@ use Rattle.cs_eval.specs.declared.pieces.Shown.{Shown}
 use Rattle.cs_eval.specs.Parts.{Truths, IsPart, IsHalf, AreHalves, unguessed, unguessed_if}
 use Rattle.cs_eval.specs.Splits.{Asking, IsExact, IsPieceOf, Each, HaveOwnLabels, IsCovered, IsSplit}
 
--- what an operation shows by a truth, and the number that leads on
+-- what an operation shows for a truth, and the number with which it continues
 pub record IsShownBy (model : DataModel) (before : Sets) (asking : Asking) (truth : Truths) (label : Bool → Label) (number : Bool → Lin) : Type 0 where
   pub followed : (v : Valuation) → Fits v before → asking.IsFollowed v
   pub shown : (v : Valuation) → Fits v before → shows model (asking.operation v) None ≡ label (truth v)
@@ -90,7 +90,7 @@ module _ (model : DataModel) (before : Sets) (guess : ℕ) (asking : Asking) (sy
     covers = λ v fits. covered v fits (truth v) refl halves.holds halves.fails h.holds h.fails;
   }
 
--- pieces with the labels and numbers that are known
+-- pieces with known labels and numbers
 pub same_pieces : (held failed : Shown) (l m : Label) (a b : Lin) (halves : Halves) (pieces : List Piece) → held.label ≡ l → held.answer ≡ a
     → failed.label ≡ m → failed.answer ≡ b
     → pieces ≡ unguessed_if held.label held.answer halves.holds ++ unguessed_if failed.label failed.answer halves.fails

@@ -42,7 +42,7 @@ pub record IsWrap (model : DataModel) (asking : Asking) : Type 0 where
   pub shown : (v : Valuation) → shows model (asking.operation v) None ≡ label.Wrap (wrap_of (own_quotient model (asking.operation v)))
   pub shown_guess : (v : Valuation) (number : ℤ) → shows model (asking.operation v) (Some number) ≡ label.Wrap Guessed
 
--- the numbers that may be guessed lie between the ends, and where the operation isn't followed its own result does too
+-- the numbers that may be guessed are those between the ends, and the own result is among them where the operation isn't followed
 pub record AreGuesses (model : DataModel) (before : Sets) (asking : Asking) (numbers : Interval) : Type 0 where
   pub to : (v : Valuation) (number : ℤ) → Fits v before → IsBetween numbers.low numbers.high number → asking.IsGuess v number
   pub from : (v : Valuation) (number : ℤ) → Fits v before → asking.IsGuess v number → IsBetween numbers.low numbers.high number
@@ -59,7 +59,7 @@ wrap_in (label.Offset offset) = Same
 wrap_in (label.Callee function) = Same
 wrap_in (label.Alloc holds) = Same
 
--- a near quotient, and the wrap that shows it
+-- a near quotient, and the wrap that it shows
 pub record IsShownAs (quotient : ℤ) (wrap : Wrap) : Type 0 where
   pub shown : wrap_of quotient ≡ wrap
   pub alone : (x : ℤ) → wrap_of x ≡ wrap → x ≡ quotient
@@ -95,7 +95,7 @@ shown_same = record { shown = refl; alone = alone_same; near = λ far. far.1 ref
 shown_past : IsShownAs (pos 1) Past
 shown_past = record { shown = refl; alone = alone_past; near = λ far. far.2 refl }
 
--- a quotient is one of the three that are near, or far
+-- a quotient is one of the three near ones, or far
 pub which_quotient : (x : ℤ) → (x ≡ negsuc 0) ⊎ ((x ≡ pos 0) ⊎ ((x ≡ pos 1) ⊎ IsFar x))
 which_quotient (pos zero) = inr (inl refl)
 which_quotient (pos (suc zero)) = inr (inr (inl refl))
@@ -104,7 +104,7 @@ which_quotient (pos (suc (suc n))) =
 which_quotient (negsuc zero) = inl refl
 which_quotient (negsuc (suc n)) = inr (inr (inr (λ e. absurd (omega (arith, ints)), λ e. absurd (omega (arith, ints)), λ e. absurd (omega (arith, ints)))))
 
--- the valuations that fit where one symbol has some of its numbers only
+-- the valuations that fit after a symbol's range is narrowed to a set
 module _ (before after : Sets) (s : ℕ) (range set : List Interval) (known : set_of before s ≡ Some range) (narrowed : IsNarrowed before s set after) where
   pub narrowed_fits : ((x : ℤ) → IsTrue (contains set x) → IsTrue (contains range x)) → (v : Valuation) → Fits v after
       → Fits v before × IsTrue (contains set (v s))
@@ -127,7 +127,7 @@ module _ (before after : Sets) (s : ℕ) (range set : List Interval) (known : se
     | inr differ ↦ fits t found (sym (narrowed.elsewhere t differ) ∙ e)
   ]
 
--- a term over one symbol at most has the value that it has at the symbol's number
+-- the value of a term over at most one symbol, by the symbol's number
 pub value_of-over : (v : Valuation) (term : Lin) (s : Sym) → HasNoOtherSymbol term.sym (Some s) → value_of v term ≡ value_at term (v s.0)
 value_of-over v term s h = by term.sym refl
   where
@@ -136,7 +136,7 @@ value_of-over v term s h = by term.sym refl
     by (Some t) e = value_of-symbol v term t e ∙ ap (λ (k : Sym). value_at term (v k.0)) (sym (same_Some s t (h t e)))
 
 module _ (model : DataModel) (before : Sets) (guess : ℕ) (asking : Asking) (is : IsWrap model asking) where
-  -- one piece for all valuations, of which each is followed
+  -- one piece for all valuations, under each of which the operation is followed
   pub one_split : (wrap : Wrap) (answer : Lin) (pieces : List Piece) → pieces ≡ unguessed (label.Wrap wrap) answer before ∷ []
       → AreInhabited before → ((v : Valuation) → Fits v before → asking.IsFollowed v)
       → ((v : Valuation) → Fits v before → wrap_of (own_quotient model (asking.operation v)) ≡ wrap)
@@ -155,7 +155,7 @@ module _ (model : DataModel) (before : Sets) (guess : ℕ) (asking : Asking) (is
       subst (λ (ps : List Piece). IsSplit model before guess asking ps) (sym made)
       (record { each = (piece_is, tt); labels = (tt, tt); covers = λ v fits. inl fits })
 
-  -- a guess under the valuations that aren't followed
+  -- a guess under the valuations for which the operation isn't followed
   module _ (inexact : Inexact) (middle : Sets) (piece : Piece) (fresh : set_of middle guess ≡ None)
       (from : (v : Valuation) → Fits v middle → Fits v before × ¬ asking.IsFollowed v)
       (back : (v : Valuation) → Fits v before → ¬ asking.IsFollowed v → Fits v middle)
@@ -196,7 +196,7 @@ module _ (model : DataModel) (before : Sets) (guess : ℕ) (asking : Asking) (is
         (fits_declared middle piece.constraints guess h.piece_is.set fresh h.piece_is.declared v (own_result model (asking.operation v))
         (back v fits unfollowed) (member (own_result model (asking.operation v)) (may.own v fits unfollowed)))
 
-  -- an operation that is guessed as a whole
+  -- an operation whose whole result is guessed
   pub whole_split : (inexact : Inexact) (pieces : List Piece) → set_of before guess ≡ None
       → ((v : Valuation) → Fits v before → ¬ asking.IsFollowed v)
       → ((numbers : Interval) → HasNumbers model inexact numbers → AreGuesses model before asking numbers)
@@ -225,7 +225,7 @@ pub record IsWrapOver (model : DataModel) (before : Sets) (asking : Asking) (s :
   pub near : (v : Valuation) → Fits v before → ¬ IsFar (own_quotient model (asking.operation v)) → asking.IsFollowed v
   pub mentioned : asking.Mentions s
 
--- where a guess is asked for, far quotients aren't followed
+-- if a guess is requested, far quotients aren't followed
 pub record IsFarGuessed (model : DataModel) (before : Sets) (asking : Asking) (inexact : Inexact) : Type 0 where
   pub far : (v : Valuation) → Fits v before → IsFar (own_quotient model (asking.operation v)) → ¬ asking.IsFollowed v
   pub guesses : (numbers : Interval) → HasNumbers model inexact numbers → AreGuesses model before asking numbers
@@ -246,7 +246,7 @@ module _ (model : DataModel) (before : Sets) (guess : ℕ) (asking : Asking) (s 
   not_mentioned other un e =
       let made : ℕ → Sym = λ k. record { 0 = k } in un (subst (λ (k : ℕ). asking.Mentions (made k)) (sym e) given.mentioned)
 
-  -- pieces with one wrap
+  -- the pieces with one wrap
   record IsGroup (wrap : Wrap) (pieces : List Piece) : Type 0 where
     each : Each (IsPieceOf model before guess asking) pieces
     labels : HaveOwnLabels pieces

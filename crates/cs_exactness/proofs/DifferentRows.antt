@@ -20,7 +20,7 @@ some_last xs x e =
     let all = length-append xs (x ∷ []) in
     omega (arith, many, all)
 
--- two lists that are the same with their last elements
+-- lists that are equal with their last elements are equal without them, and so are these
 pub same_last : {A : Type 0} (xs ys : List A) (x y : A) → xs ++ x ∷ [] ≡ ys ++ y ∷ [] → (xs ≡ ys) × (x ≡ y)
 same_last [] [] x y e = let same : x ≡ y = cc in (refl, same)
 same_last [] (z ∷ ys) x y e = let rest : [] ≡ ys ++ y ∷ [] = cc in absurd (some_last ys y rest)

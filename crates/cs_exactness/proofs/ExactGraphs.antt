@@ -31,7 +31,7 @@ module _ (code : Code) (program : TypedProgram) (entry : ℕ) (budgets : RunBudg
     own = has_own_runs code program entry budgets names rules rows sourced.rows_come ends Are sourced;
   }
 
-  -- all ends of a row from which another one comes are listed
+  -- all ends of a row with a child are listed
   has_ends : (number : ℕ) → HasChild rows number → HasEnds code program entry budgets names rules rows ends number
   has_ends number (other, row, there, differs, from) = elim (sourced.rows_come other row there) [
     | inl first_row ↦ absurd (differs (first_row.0 ∙ sym first_row.1.itself ∙ from))

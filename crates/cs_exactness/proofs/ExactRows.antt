@@ -49,7 +49,7 @@ module _ (code : Code) (program : TypedProgram) (entry : ℕ) (budgets : RunBudg
   chain_of : (number : ℕ) (row : Row) → slice_get rows number ≡ Some row → (chain : List Event) × IsChain rows number chain
   chain_of number row there = chain_under (suc number) number (omega arith) row there
 
-  -- runs come to a row
+  -- runs reach a row
   comes_to : (state : State) (chain : List Event) (v : Valuation) (number : ℕ) (row : Row) → slice_get rows number ≡ Some row
       → IsChain rows number chain → Fits v row.state.value.constraints → state.model ≡ program.model → state.asked ≡ row.state.value.asked
       → IsAlong code program entry budgets names rules row.state.value chain v (setting_of names budgets state v)
@@ -80,7 +80,7 @@ module _ (code : Code) (program : TypedProgram) (entry : ℕ) (budgets : RunBudg
             };
       }
 
-  -- the run of a valuation that fits an end of a row comes to the row, and ends from there
+  -- the run of a valuation that fits an end of a row reaches the row, and ends from there
   module _ (number : ℕ) (made : List Child) (endings : List StateEnd) (from : ComesOfRow code program entry budgets names rules rows number made endings)
       (one : StateEnd)
       (is : IsEndOf code program budgets names from.row.state.value one) (chain : List Event) (leads : IsChain rows number chain) where

@@ -37,7 +37,7 @@ use Rattle.cs_coverage.proofs.BeginningStates.{begins_integer}
 use Rattle.cs_coverage.proofs.OwnStarts.{is_beginning}
 use Rattle.cs_exactness.specs.Sources.{IsFirstState}
 
--- an option that is there has something
+-- an option that isn't empty has something
 some_found : {A : Type 0} (o : Option A) → is_some o ≡ true → (a : A) × (o ≡ Some a)
 some_found None there = cc
 some_found (Some a) there = (a, refl)
@@ -68,7 +68,7 @@ module _ (code : Code) (program : TypedProgram) (entry : ℕ) (budgets : RunBudg
         ap (λ (s : Shape). input_number program.model (input_kind s) (v symbol)) is
         ∙ ap (λ (b : Bool). if b then v symbol else pos 0) (lies path (numbers_of program.model ty) value number named)
 
-    -- the run's own number of a declared symbol is the one that fits
+    -- the run's own number of a declared symbol is its number under the valuation
     same_number : is_declared state.constraints symbol ≡ true
         → v symbol ≡ own code program entry budgets given names state start more numbered once works.parameters differ nothing (input_of names.syms v)
         symbol

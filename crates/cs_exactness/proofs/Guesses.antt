@@ -22,7 +22,7 @@ use Rattle.cs_state.specs.declared.asked.Asked.{Asked}
 use Rattle.cs_state.specs.Valuations.{Guessed as Guesses, guess_of, guesses_of}
 use Rattle.cs_successors.specs.Coming.{AreGuessesAfter}
 
--- each guess stands under the number of its event
+-- each guess has the number of its event as its key
 abbrev pub AreNumbered : EntryList Asked → Type 0
 AreNumbered [] = Unit {0}
 AreNumbered (entry ∷ entries) = (entry.0 ≡ (entry.1.event, 0)) × AreNumbered entries
@@ -31,7 +31,7 @@ AreNumbered (entry ∷ entries) = (entry.0 ≡ (entry.1.event, 0)) × AreNumbere
 abbrev pub number_in : Valuation → Option Asked → Option ℤ
 number_in v = option_map (λ (asked : Asked). v asked.guess.0)
 
--- the first guess at an event is the one under its number
+-- the first guess at an event is the one with its number as key
 listed : (v : Valuation) (event : ℕ) (entries : EntryList Asked) → AreNumbered entries
     → guess_at (map (guess_of v) (map (λ e. e.1) entries)) event ≡ number_in v (find key_cmp (event, 0) entries)
 listed v event [] are = refl
@@ -52,7 +52,7 @@ guessed_at : (v : Valuation) (guesses : Guesses) → AreNumbered (finite.entries
     → guess_at (guesses_of v guesses) event ≡ number_in v (finite.get guesses (event, 0))
 guessed_at v guesses are event = listed v event (finite.entries guesses) are ∙ ap (number_in v) (sym (finite.get-entries guesses (event, 0)))
 
--- nothing is listed at an event after all those at which something was guessed
+-- nothing is listed at an event after all that have guesses
 pub none_listed : (v : Valuation) (event : ℕ) (asked : List Asked) → All (λ (one : Asked). one.event < event) asked
     → guess_at (map (guess_of v) asked) event ≡ None
 none_listed v event [] all = refl
@@ -87,7 +87,7 @@ module _ (event : ℕ) where
 
   module _ (v : Valuation) (events : ℕ) (next : event ≡ suc events) (guess : Option Sym) (before after : Guesses)
       (is : AreGuessesAfter event guess before after) (are : AreNumbered (finite.entries before)) where
-    -- what was guessed before is listed as before
+    -- earlier guesses are listed as before
     pub listed_before : (earlier : ℕ) → earlier ≤ events → guess_at (guesses_of v after) earlier ≡ guess_at (guesses_of v before) earlier
     listed_before earlier early = by guess refl is
       where
@@ -100,7 +100,7 @@ module _ (event : ℕ) where
             ∙ ap (λ (m : Guesses). number_in v (finite.get m (earlier, 0))) same
             ∙ ap (number_in v) (get_elsewhere before event earlier one apart) ∙ sym (guessed_at v before are earlier)
 
-    -- and the number of the symbol at the event itself
+    -- and at the event itself the symbol's number is listed
     pub listed_here : ((asked : Asked) → Contains (finite.values before) asked → asked.event ≤ events)
         → guess_at (guesses_of v after) event ≡ option_map (λ (symbol : Sym). v symbol.0) guess
     listed_here all = by guess refl is

@@ -38,7 +38,7 @@ use Rattle.cs_exactness.specs.Sources.{HasSource, IsOfParent, AreSourced}
 use Rattle.cs_exactness.proofs.Guesses.{AreNumbered}
 use Rattle.cs_exactness.proofs.Walking.{child_is, first_is, next_is, integer_row, numbered}
 
--- no one has a number below 0, nor is in an empty list, nor is None a symbol
+-- no number is below 0, nothing is in an empty list, and None isn't a symbol
 none_below : (number : ℕ) → number < 0 → ⊥
 none_below number below = omega (arith, below)
 
@@ -52,12 +52,12 @@ no_mark mark row none some = let wrong : None ≡ Some mark = sym none ∙ some 
 later_key : (earlier event : ℕ) → earlier < event → key_cmp (event, 0) (earlier, 0) ≡ Greater
 later_key earlier event late = ap (λ (o : Ordering). ordering_then o (nat_cmp 0 0)) (sym (nat_cmp_is event earlier Greater late))
 
--- all guesses stand under numbers below one
+-- the keys of all guesses are below a number
 abbrev AreBelow : ℕ → EntryList Asked → Type 0
 AreBelow event [] = Unit {0}
 AreBelow event (entry ∷ entries) = (entry.1.event < event) × AreBelow event entries
 
--- a guess at a later event is the last
+-- a guess at a later event is added at the end
 put_last : (event : ℕ) (one : Asked) (entries : EntryList Asked) → AreNumbered entries → AreBelow event entries
     → put key_cmp (event, 0) one entries ≡ entries ++ ((event, 0), one) ∷ []
 put_last event one [] are below = refl
@@ -78,7 +78,7 @@ below_all event (entry ∷ entries) all = (
     behind_one : (x : Asked) (xs : List Asked) (y : Asked) → Contains xs y → Contains (x ∷ xs) y
     behind_one x xs y (k, within, at) = (suc k, omega (arith, within), at)
 
--- what is found under a key has its event
+-- what is found at a key has its event
 found_under : (key : ℕ × ℕ) (asked : Asked) (entries : EntryList Asked) → AreNumbered entries → find key_cmp key entries ≡ Some asked
     → key ≡ (asked.event, 0)
 found_under key asked [] are found = cc
@@ -91,7 +91,7 @@ found_under key asked (entry ∷ entries) are found =
         same_key key entry.0 tied ∙ are.0 ∙ ap (λ (a : Asked). (a.event, 0)) (same_Some entry.1 asked is)
     by false tied rest is = rest is
 
--- the values once one more was guessed
+-- the values after one more guess
 pub values_after : (event : ℕ) (one : Asked) (before after : Guesses) → AreNumbered (finite.entries before)
     → ((asked : Asked) → Contains (finite.values before) asked → asked.event < event) → after ≡ finite.insert before (event, 0) one
     → finite.values after ≡ finite.values before ++ one ∷ []
@@ -118,7 +118,7 @@ module _ (code : Code) (program : TypedProgram) (entry : ℕ) (budgets : RunBudg
       ap (λ (r : Row). r.state.value.counters.events) of.same ∙ (child_is code program entry budgets names rules rows come number row of).number
       ∙ ap suc earlier ∙ (let all = length-append events (event ∷ []) in omega (arith, all))
 
-  -- the guesses of a row's state are its parent's, and one more where its child was guessed at
+  -- the guesses of a row's state are its parent's, and one more if its child has a guess
   module _ (number : ℕ) (row : Row) (of : OfParent number row) (numbers : AreNumbered (finite.entries of.parent.row.state.value.asked)) where
     abbrev parent : State
     parent = of.parent.row.state.value
@@ -126,7 +126,7 @@ module _ (code : Code) (program : TypedProgram) (entry : ℕ) (budgets : RunBudg
     abbrev state : State
     state = of.child.state.value
 
-    -- what was guessed before comes before
+    -- earlier guesses are before it
     pub early : (asked : Asked) → Contains (finite.values parent.asked) asked → asked.event < state.counters.events
     early asked among =
         let integer = integer_row code program entry budgets names rules rows come row.parent of.parent.row of.parent.there in
@@ -185,7 +185,7 @@ module _ (code : Code) (program : TypedProgram) (entry : ℕ) (budgets : RunBudg
   pub parent_there : (number : ℕ) (found row : Row) → found ≡ row → (of : OfParent number row) → slice_get rows found.parent ≡ Some of.parent.row
   parent_there number found row same of = subst (λ (r : Row). slice_get rows r.parent ≡ Some of.parent.row) (sym same) of.parent.there
 
-  -- a guess of a state was made on the way
+  -- each guess of a state was made along its chain
   made_along : {number : ℕ} {chain : List Event} → IsChain rows number chain → (row : Row) → slice_get rows number ≡ Some row
       → (when : ℕ) (mark : Sym) → HasGuess row.state.value when mark → IsGuessedAlong rows number when mark
   made_along (first at none) row there when mark (asked, among, event_is, stands) =
@@ -208,7 +208,7 @@ module _ (code : Code) (program : TypedProgram) (entry : ℕ) (budgets : RunBudg
             subst (λ (n : ℕ). IsGuessedAlong rows number n mark) (sym (new.0 ∙ many)) (guessed_here at guess whole)
       ]
 
-  -- a guess on the way is one of the state
+  -- each guess along the chain is one of the state
   noted : {number when : ℕ} {mark : Sym} → IsGuessedAlong rows number when mark → {chain : List Event} → IsChain rows number chain → (row : Row)
       → slice_get rows number ≡ Some row → HasGuess row.state.value when mark
   noted {mark = mark} (guessed_here {row = found} at guess (first at' none)) chain row there =

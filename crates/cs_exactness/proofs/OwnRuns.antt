@@ -48,7 +48,7 @@ use Rattle.cs_exactness.proofs.Guesses.{AreNumbered}
 use Rattle.cs_exactness.proofs.NotedEvents.{passed, early, guess_kept, guess_new, guess_split, of_row, parent_there}
 use Rattle.cs_exactness.proofs.Walking.{child_is, first_is, integer_row, numbered}
 
--- the last of some steps, by their events
+-- the last one of some steps, by their events
 pub record EndsByStep (steps : List Step) (events : List Event) (event : Event) : Type 0 where
   pub earlier : List Step
   pub one : Step
@@ -84,7 +84,7 @@ last_step (one ∷ steps) (other ∷ events) event shown =
     both : (x y : Event) (xs ys : List Event) → x ≡ y → xs ≡ ys → x ∷ xs ≡ y ∷ ys
     both x y xs ys e f = λ i. e i ∷ f i
 
--- what stands at the end of the first part of a list
+-- the item after the first part of a list
 item_after : {A : Type 0} (xs : List A) (x : A) (ys : List A) → slice_get (xs ++ x ∷ ys) (length xs) ≡ Some x
 item_after [] x ys = refl
 item_after (y ∷ xs) x ys = item_after xs x ys
@@ -95,7 +95,7 @@ item_before (y ∷ xs) ys zero x there = there
 item_before (y ∷ xs) ys (suc k) x there = item_before xs ys k x there
 
 module _ {M : Type 0} (step : M → Act M) (setting : Setting) where
-  -- where a run was before its last step
+  -- the position of a run before its last step
   pub record LeavesBefore (begin : First M) (earlier : List Step) (one : Step) (left : Act M) (log : Log) : Type 0 where
     pub between : Act M
     pub before : Log
@@ -135,7 +135,7 @@ module _ {M : Type 0} (step : M → Act M) (setting : Setting) where
         last_part = further_on.last_part;
       }
 
-  -- where a run is after its last step, before it ends
+  -- the position of a run after its last step, before it ends
   pub record LeavesLast (begin : First M) (steps : List Step) (outcome : Outcome) (end : Log) : Type 0 where
     pub left : Act M
     pub log : Log
@@ -235,7 +235,7 @@ module _ (code : Code) (program : TypedProgram) (entry : ℕ) (budgets : RunBudg
       let parts = split_runs step setting x steps runs refl in
       record { left = parts.left; log = parts.log; has_left = passes parts.leaves; rest = parts.rest }
 
-  -- the way of a run from its beginning
+  -- the path of a run from its beginning
   leads_there : (setting : Setting) (steps : List Step) (left : Act CodeState) (log : Log) → HasLeft code program entry budgets setting steps left log
       → Proceeds step setting (step (start_of code program entry budgets setting)) empty steps left log
   leads_there setting steps left log (begins is none) = stays (sym is) (sym none)
@@ -248,7 +248,7 @@ module _ (code : Code) (program : TypedProgram) (entry : ℕ) (budgets : RunBudg
       (subst (λ (m : CodeState). LeavesAfter step setting (first_of setting empty (step m)) steps left log) nexts
       (subst (λ (l : Log). LeavesAfter step setting (first_of setting l (step next)) steps left log) logs rest))
 
--- a run lists no guess, or truths at just the guesses of a state so far
+-- a run lists no guess, or truths at exactly the guesses of a state so far
 abbrev pub ListsSoFar : State → List Event → List Guess → Type 0
 ListsSoFar state chain guesses = ListsOwn state chain (λ event. event ≤ state.counters.events) guesses
 
@@ -304,7 +304,7 @@ module _ (code : Code) (program : TypedProgram) (entry : ℕ) (budgets : RunBudg
       elsewhere = λ at before not. lists.elsewhere at (omega (arith, before, next)) (λ has. not (was_guessed at before has));
     })
 
-    -- nothing was guessed at the child's event, if the child has no guess
+    -- nothing is guessed at the child's event, if the child has no guess
     none_guessed : of.child.guess ≡ None → ¬ IsGuessedAt state state.counters.events
     none_guessed none (asked, among, there) =
         elim (guess_split code program entry budgets names rules rows come number row of numbers state.counters.events asked.guess
@@ -335,7 +335,7 @@ module _ (code : Code) (program : TypedProgram) (entry : ℕ) (budgets : RunBudg
               subst (λ (l : List Guess). ListsTruth l state.counters.events) (sym same) (lists.listed state.counters.events (omega arith) guessed),
             )
 
-  -- one run, with the numbers that it gives symbols in the end
+  -- one run, and the numbers that symbols have at its end
   module _ (inputs : Path → ℤ) (guesses : List Guess) (all : List Step) (last : Log) where
     abbrev setting : Setting
     setting = setting_with program budgets inputs guesses
@@ -343,7 +343,7 @@ module _ (code : Code) (program : TypedProgram) (entry : ℕ) (budgets : RunBudg
     abbrev own : Valuation
     own = own_valuation program entry names setting all last
 
-    -- along a chain, the run comes to where each row stands
+    -- along a chain, the run reaches each row
     pub along : {number : ℕ} {chain : List Event} → IsChain rows number chain → (row : Row) → slice_get rows number ≡ Some row
         → ListsSoFar row.state.value chain guesses → (steps more : List Step) (left : Act CodeState) (log : Log) → all ≡ steps ++ more
         → HasLeft code program entry budgets setting steps left log → events_of steps ≡ chain
@@ -389,7 +389,7 @@ module _ (code : Code) (program : TypedProgram) (entry : ℕ) (budgets : RunBudg
         gives_own program entry budgets names inputs guesses all last of.child.state.value.counters.events symbol (is_child.named symbol guess) parts.earlier
         more parts.one all_are count))
 
-  -- so it fits each row, which stands for it
+  -- so it fits each row, which represents it
   own_row : (number : ℕ) (row : Row) (chain : List Event) → slice_get rows number ≡ Some row → IsChain rows number chain
       → FitsAfter code program entry budgets names row.state.value chain
   own_row number row chain there leads inputs guesses steps left log lists has shown =
@@ -399,7 +399,7 @@ module _ (code : Code) (program : TypedProgram) (entry : ℕ) (budgets : RunBudg
       (own_valuation program entry names setting steps log) left log
       (along inputs guesses steps log leads row there (so_far row.state.value chain guesses lists) steps [] left log (sym (append-nil steps)) has shown)
 
-  -- directly after the events of a row's chain, a run that ends there comes to an end of the row
+  -- a run that ends directly after the events of a row's chain reaches an end of the row
   pub comes_to_end : (number : ℕ) (made : List Child) (endings : List StateEnd)
       (from : ComesOfRow code program entry budgets names rules rows number made endings) (chain : List Event) → IsChain rows number chain
       → (guesses : List Guess) → ListsSoFar from.row.state.value chain guesses
@@ -423,7 +423,7 @@ module _ (code : Code) (program : TypedProgram) (entry : ℕ) (budgets : RunBudg
       nothing : (one : Step) (more : List Step) → [] ≡ one ∷ more → ⊥
       nothing one more e = cc
 
-  -- and the end that it comes to
+  -- the end that it reaches
   module _ (end : End) (chain : List Event) (of : IsOfRow code program entry budgets names rules rows end) (leads : IsChain rows end.row chain)
       (guesses : List Guess) (lists : ListsOwn end.state.value chain IsAny guesses) where
     abbrev last_row : Row

@@ -47,7 +47,7 @@ module _ (code : Code) (program : TypedProgram) (entry : ℕ) (budgets : RunBudg
   abbrev Sourced : List Row → List End → (ℕ → Type 0) → Type 0
   Sourced rows ends Are = AreSourced code program entry budgets names rules rows ends Are
 
-  -- the next row is given
+  -- the next row is taken from the worklist
   pub sources_given : (before after : RowGraph) (ends : List End) (row : ℕ) → IsGiven row before.work after.work → after ≡ with_work after.work before
       → IsGraph before ends Waits → IsGraph after ends (IsOpen row)
   sources_given before after ends row given rest is =
@@ -62,10 +62,10 @@ module _ (code : Code) (program : TypedProgram) (entry : ℕ) (budgets : RunBudg
       waited number (inl waits) = (waits.0, given.none_more waits.0 number waits.1)
       waited number (inr same) = (given.visits, subst (λ (n : ℕ). IsWaiting before.work given.visits n) (sym same) given.waited)
 
-  -- a row is worked on, of which these children and ends come
+  -- a row that was taken, with its children and ends
   module _ (row : ℕ) (made : List Child) (endings : List StateEnd) where
     module _ (ends : List End) (listed : (place : ℕ) (one : StateEnd) → slice_get endings place ≡ Some one → IsListed ends row one) where
-      -- so many of its children were placed
+      -- this many of its children were placed
       record IsStage (count : ℕ) (graph : RowGraph) : Type 0 where
         sources : IsGraph graph ends Waits
         from : Comes graph.rows row made endings
@@ -76,7 +76,7 @@ module _ (code : Code) (program : TypedProgram) (entry : ℕ) (budgets : RunBudg
         abbrev more : List Row
         more = before.rows ++ child_row row child ∷ []
 
-        -- its key was there
+        -- the key of the child existed
         placed_old : IsStage (suc count) before
         placed_old = record {
           sources = is.sources;
@@ -133,7 +133,7 @@ module _ (code : Code) (program : TypedProgram) (entry : ℕ) (budgets : RunBudg
           (λ i other there. subst (λ (n : ℕ). slice_get made n ≡ Some other) (omega arith) (each (suc i) other there))
           (place_one count child at before is between first.0 first.1 first.2) rest)
 
-      -- its next child would come from it too, if the budget of nodes allowed it
+      -- its next child would be one of it too, if the budget of nodes allowed it
       refused : (count : ℕ) (child : Child) → slice_get made count ≡ Some child → (graph : RowGraph) → IsStage count graph
           → IsUnseen (pointwise nat_eq) (words_of (live_part child.state.value)) graph.keys
           → Sourced (graph.rows ++ child_row row child ∷ []) ends (λ number. ⊥)
@@ -142,7 +142,7 @@ module _ (code : Code) (program : TypedProgram) (entry : ℕ) (budgets : RunBudg
           count child at is.firsts (λ never. never) (λ number within never. absurd never)
           (unlike_all code program entry budgets names rules graph is.sources.keys is.sources.long (child_row row child) unseen) listed
 
-    -- its ends were added, and the first of its children
+    -- its ends were added, and its first children
     module _ (before after : RowGraph) (ends : List End) (from : Comes before.rows row made endings) (gone : ¬ Waits before.work row)
         (places : PlacesFirst row made before after) (is : IsGraph before ends (IsOpen row)) where
       abbrev all_ends : List End
@@ -177,7 +177,7 @@ module _ (code : Code) (program : TypedProgram) (entry : ℕ) (budgets : RunBudg
           → Sourced (after.rows ++ child_row row child ∷ []) all_ends (λ number. ⊥)
       sources_refused child at unseen = refused all_ends (listed_there ends row endings) (length places.some) child at after placed unseen
 
-  -- nothing is there
+  -- an empty graph
   pub sources_nothing : (graph : RowGraph) → graph.keys ≡ [] → graph.rows ≡ [] → IsGraph graph [] Waits
   sources_nothing graph no_keys no_rows = record {
     keys = λ place key row at there. absurd (nowhere graph.rows no_rows place row there);
@@ -194,7 +194,7 @@ module _ (code : Code) (program : TypedProgram) (entry : ℕ) (budgets : RunBudg
     };
   }
 
-  -- the first row alone
+  -- only the first row
   pub sourced_first : (row : Row) (Are : ℕ → Type 0) → IsFirstRow code program entry budgets names rules row → Sourced (row ∷ []) [] Are
   sourced_first row Are first = record {
     rows_come = λ number found there.

@@ -41,7 +41,7 @@ behind_or_before f (x ∷ xs) ys (suc place) z there = elim (behind_or_before f 
   | inr found ↦ let at = found.2 in inr (found.0, found.1, omega (arith, at), found.3, found.4)
 ]
 
--- the ends of a row that are added are listed
+-- the ends of a row that were added are listed
 pub listed_there : (ends : List End) (row : ℕ) (endings : List StateEnd) (place : ℕ) (one : StateEnd) → slice_get endings place ≡ Some one
     → IsListed (ends ++ map (end_of_row row) endings) row one
 listed_there [] row endings place one at =
@@ -112,7 +112,7 @@ module _ (code : Code) (program : TypedProgram) (entry : ℕ) (budgets : RunBudg
   abbrev Listed : List Row → List End → ℕ → Type 0
   Listed rows ends number = HasEnds code program entry budgets names rules rows ends number
 
-  -- the ends of a row stay listed with more rows and ends
+  -- the ends of a row remain listed with more rows and ends
   listed_more : (rows more : List Row) (ends added : List End) (number : ℕ) → Listed rows ends number → Listed (rows ++ more) (ends ++ added) number
   listed_more rows more ends added number has = record {
     made = has.made;
@@ -123,13 +123,13 @@ module _ (code : Code) (program : TypedProgram) (entry : ℕ) (budgets : RunBudg
         record { place = is.place; there = kept_place ends added is.place (end_of_row number one) is.there };
   }
 
-  -- the children of a row that are there are some of the first so many
+  -- the children of a row that exist are among its first ones, up to this number
   abbrev pub AreFirst : List Row → ℕ → List Child → ℕ → Type 0
   AreFirst rows row made count = (number : ℕ) (found : Row) (event : Event) → slice_get rows number ≡ Some found → found.event ≡ Some event
       → found.parent ≡ row
       → (place : ℕ) × (child : Child) × (place < count) × (slice_get made place ≡ Some child) × (child.event ≡ event)
 
-  -- a row is worked on: all that comes of it is known
+  -- a row that was taken, all of whose successors are known
   module _ (row : ℕ) (rows : List Row) (made : List Child) (endings : List StateEnd) (from : Comes rows row made endings) where
     -- its ends are added
     module _ (ends : List End) (Are Were : ℕ → Type 0) (sourced : Sourced rows ends Were) (open_row : Were row)
@@ -145,7 +145,7 @@ module _ (code : Code) (program : TypedProgram) (entry : ℕ) (budgets : RunBudg
             (record { made = made; endings = endings; from = from; place = found.0; one = found.1; at = found.3; same = refl })
       ]
 
-      -- an end that was there is of another row
+      -- an end that existed is of another row
       of_another : (number at : ℕ) (first second : End) (one : StateEnd) → slice_get ends number ≡ Some first → second ≡ end_of_row row one
           → first.row ≡ second.row → ⊥
       of_another number at first second one there is same =
@@ -184,11 +184,11 @@ module _ (code : Code) (program : TypedProgram) (entry : ℕ) (budgets : RunBudg
         ];
       }
 
-      -- no child of it is there
+      -- no child of it exists
       pub first_none : AreFirst rows row made 0
       first_none number found event there leads same = absurd (sourced.no_children number found event there leads (subst Were (sym same) open_row))
 
-    -- the next of its children is added
+    -- its next child is added
     module _ (ends : List End) (Are Were : ℕ → Type 0) (sourced : Sourced rows ends Were) (count : ℕ) (child : Child)
         (at : slice_get made count ≡ Some child)
         (firsts : AreFirst rows row made count) (gone : ¬ Are row) (fewer : (number : ℕ) → number < length rows → Are number → Were number)
@@ -229,7 +229,7 @@ module _ (code : Code) (program : TypedProgram) (entry : ℕ) (budgets : RunBudg
         ]
       ]
 
-      -- a child that was there has another label
+      -- a child that existed has another label
       of_others : (number : ℕ) (first second : Row) (here there : Event) → slice_get rows number ≡ Some first → first.event ≡ Some here
           → second ≡ new
           → second.event ≡ Some there → first.parent ≡ second.parent → here.label ≡ there.label → ⊥
@@ -253,7 +253,7 @@ module _ (code : Code) (program : TypedProgram) (entry : ℕ) (budgets : RunBudg
         ]
       ]
 
-      -- the parent of a row that was there is there
+      -- the parent of a row that existed is there
       parent_there : (number : ℕ) (found : Row) (event : Event) → slice_get rows number ≡ Some found → found.event ≡ Some event
           → found.parent < length rows
       parent_there number found event there leads = elim (sourced.rows_come number found there) [
@@ -294,7 +294,7 @@ module _ (code : Code) (program : TypedProgram) (entry : ℕ) (budgets : RunBudg
             sourced.no_ends number end there (fewer end.row (slice_get_within rows end.row of.from.row of.from.there) is_open);
       }
 
-      -- it is one of the first of them
+      -- it is one of the first children
       pub firsts_more : AreFirst all_rows row made (suc count)
       firsts_more number found event there leads same = elim (last_or_before rows new found number there) [
         | inl before ↦
@@ -304,7 +304,7 @@ module _ (code : Code) (program : TypedProgram) (entry : ℕ) (budgets : RunBudg
         | inr last ↦ (count, child, omega arith, at, same_Some child.event event (sym (ap (λ (r : Row). r.event) last.1) ∙ leads))
       ]
 
-  -- a row whose key is new has another live part than those that are there
+  -- a row whose key is new differs in its live part from all others
   pub unlike_all : (graph : RowGraph) → HaveKeys graph → length graph.keys ≡ length graph.rows → (row : Row)
       → IsUnseen (pointwise nat_eq) (words_of (live_part row.state.value)) graph.keys
       → (number : ℕ) (found : Row) → slice_get graph.rows number ≡ Some found → live_part found.state.value ≢ live_part row.state.value

@@ -45,7 +45,7 @@ leaves_then step setting (now e) onward = later e onward
 leaves_then step setting (later e rest) onward = later e (leaves_then step setting rest onward)
 leaves_then step setting (unseen e rest) onward = unseen e (leaves_then step setting rest onward)
 
--- the first row comes of no row, and no row before it is there
+-- the first row has no parent, and no row is before it
 none_below : (number : ℕ) → number < 0 → ⊥
 none_below number below = omega (arith, below)
 
@@ -62,7 +62,7 @@ module _ (code : Code) (program : TypedProgram) (entry : ℕ) (budgets : RunBudg
   left_then setting (passes leaves) onward = passes (leaves_then step setting leaves onward)
 
   module _ (names : Naming) (rules : List Rule) where
-    -- a run passes these events first and has come to where a state stands under a valuation
+    -- a run passes these events first and has reached a state under a valuation
     pub record IsAlong (state : State) (chain : List Event) (v : Valuation) (setting : Setting) : Type 0 where
       pub steps : List Step
       pub shown : events_of steps ≡ chain
@@ -72,11 +72,11 @@ module _ (code : Code) (program : TypedProgram) (entry : ℕ) (budgets : RunBudg
       pub proceeds : Proceeds step setting (step (start_of code program entry budgets setting)) empty steps left log
       pub at : IsAt code program budgets names state setting v left log
 
-    -- a run lists at the events so far what the state has guessed there
+    -- up to this event, a run lists what the state has guessed
     abbrev pub ListsAs : Setting → Valuation → State → Type 0
     ListsAs setting v state = (event : ℕ) → event ≤ state.counters.events → guess_at setting.guesses event ≡ guess_at (guesses_of v state.asked) event
 
-    -- what the run of a valuation has
+    -- what holds for the run of a valuation
     pub record IsRunOf (setting : Setting) (v : Valuation) : Type 0 where
       pub goes : GoesBy code program budgets names setting
       pub inputs : setting.inputs ≡ input_of names.syms v
@@ -122,7 +122,7 @@ module _ (code : Code) (program : TypedProgram) (entry : ℕ) (budgets : RunBudg
       abbrev OfParent : ℕ → Row → Type 0
       OfParent number row = IsOfParent code program entry budgets names rules rows number row
 
-      -- what a row is of its parent
+      -- a row's state is that of a child of its parent
       pub child_is : (number : ℕ) (row : Row) (of : OfParent number row) → IsChildOf code program budgets names rules of.parent.row.state.value of.child
       child_is number row of =
           element (IsChildOf code program budgets names rules of.parent.row.state.value) of.made of.place of.child of.at of.parent.all.children
@@ -134,14 +134,14 @@ module _ (code : Code) (program : TypedProgram) (entry : ℕ) (budgets : RunBudg
         | inr of ↦ subst (λ (r : Row). IsIntegerState code program budgets names r.state.value) (sym of.same) (child_is number row of).integer
       ]
 
-      -- the row at the beginning of a chain
+      -- the first row of a chain
       pub first_is : (row : Row) → slice_get rows 0 ≡ Some row → IsFirstRow code program entry budgets names rules row
       first_is row there = elim (come 0 row there) [
         | inl first_row ↦ first_row.1
         | inr of ↦ absurd (none_below row.parent of.before)
       ]
 
-      -- and one to which an event leads
+      -- and one that an event leads to
       pub next_is : (number : ℕ) (row : Row) → slice_get rows number ≡ Some row → (event : Event) → row.event ≡ Some event → OfParent number row
       next_is number row there event leads = elim (come number row there) [
         | inl first_row ↦ absurd (no_event first_row.1.no_event)
@@ -151,7 +151,7 @@ module _ (code : Code) (program : TypedProgram) (entry : ℕ) (budgets : RunBudg
           no_event : row.event ≡ None → ⊥
           no_event none = let wrong : Some event ≡ None = sym leads ∙ none in cc
 
-      -- the guesses of each row's state stand under the numbers of their events
+      -- the guesses of each row's state have the numbers of their events as keys
       pub numbered : {number : ℕ} {chain : List Event} → IsChain rows number chain → (row : Row) → slice_get rows number ≡ Some row
           → AreNumbered (finite.entries row.state.value.asked)
       numbered (first {row = found} at none) row there =
@@ -166,7 +166,7 @@ module _ (code : Code) (program : TypedProgram) (entry : ℕ) (budgets : RunBudg
           subst (λ (r : Row). AreNumbered (finite.entries r.state.value.asked)) (sym of.same)
           (numbered_after of.child.state.value.counters.events of.child.guess of.parent.row.state.value.asked of.child.state.value.asked is.asked earlier)
 
-      -- each run comes along
+      -- each such run reaches the row
       pub walk : {number : ℕ} {chain : List Event} → IsChain rows number chain → (row : Row) → slice_get rows number ≡ Some row → (v : Valuation)
           → Fits v row.state.value.constraints → (setting : Setting) → IsRunOf setting v → ListsAs setting v row.state.value
           → IsAlong row.state.value chain v setting

@@ -18,13 +18,13 @@ none_more rules call number rule there unfit none =
     (λ other at fits. unfit (subst (IsFor call) (same_Some other rule (sym at ∙ there)) fits)) in
     λ earlier other before at fits. each earlier before other at fits
 
--- no rule is for it
+-- no rule is for the call
 pub unruled : (rules : List Rule) (call : Call) (number : ℕ) → length rules ≤ number → NoneBefore rules call number → IsUnruled rules call
 unruled rules call number all none place rule at fits =
     let within = slice_get_within rules place rule at in
     none place rule (omega (arith, all, within)) at fits
 
--- what is no call leaves the phase
+-- the label of something other than a call doesn't change the phase
 pub other_label : (rules : List Rule) (phase : ℕ) (place : Place) (label : Label) → ((function : ℕ) → label ≡ Callee function → ⊥)
     → IsPhaseAfterLabel rules phase place label phase
 other_label rules phase place (Truth truth) none = refl

@@ -43,11 +43,11 @@ linked_more rows row from linked number other at =
       | inr last ↦ subst (λ (r : Row). ComesFromBefore number r) last.1 (subst (λ (n : ℕ). ComesFromBefore n row) (sym last.0) from)
     ]
 
--- ends of rows are so with more rows
+-- ends of rows remain so with more rows
 ends_stay : (rows more : List Row) (ends : List End) → length rows ≤ length more → AreOfRows rows ends → AreOfRows more ends
 ends_stay rows more ends longer of k d within = let h = of k d within in omega (arith, longer, h)
 
--- rows that are there stay, and the new ones are linked too
+-- existing rows are kept, and the new ones are linked too
 grows_where : (before after : Findings) → after.nodes ≡ before.nodes → after.graph.nodes ≡ before.graph.nodes
     → length before.graph.rows ≤ length after.graph.rows → (IsSound before → length after.graph.rows ≤ before.nodes)
     → (AreLinked before.graph.rows → AreLinked after.graph.rows)
@@ -72,7 +72,7 @@ grows_same before after nodes budget rows ends =
     (subst AreLinked (sym rows))
     (λ of. subst (AreOfRows after.graph.rows) (sym ends) (ends_stay before.graph.rows after.graph.rows before.ends.items longer of))
 
--- one more end, of a row that is there
+-- one more end, of an existing row
 pub grows_end : (before after : Findings) (end : End) → after.nodes ≡ before.nodes → after.graph ≡ before.graph
     → after.ends.items ≡ before.ends.items ++ end ∷ [] → end.row < length before.graph.rows → Grows before after
 grows_end before after end nodes graph ends of_row =
@@ -84,7 +84,7 @@ grows_end before after end nodes graph ends of_row =
     (λ of. subst (AreOfRows after.graph.rows) (sym ends) (All-push (λ (e : End). e.row < length after.graph.rows) before.ends.items end
     (ends_stay before.graph.rows after.graph.rows before.ends.items longer of) there))
 
--- a row with an equal key was there, or the row is the last from now on
+-- a row with an equal key existed, or the row is the new last one
 pub grows_added : (before after : Findings) (key : List ℕ) (visits : ℕ) (row : Row) (added : Added) → after.nodes ≡ before.nodes
     → after.ends.items ≡ before.ends.items → ComesFromBefore (length before.graph.rows) row
     → IsAdded (pointwise nat_eq) key visits row added before.graph after.graph → Grows before after
@@ -98,7 +98,7 @@ grows_added before after key visits row (New number) nodes ends from is =
     (λ linked. subst AreLinked (sym rows) (linked_more before.graph.rows row from linked))
     (λ of. subst (AreOfRows after.graph.rows) (sym ends) (ends_stay before.graph.rows after.graph.rows before.ends.items longer of))
 
--- nothing is found yet
+-- nothing was found yet
 pub sound_nothing : (findings : Findings) → findings.graph ≡ empty findings.nodes → findings.ends.items ≡ [] → IsSound findings
 sound_nothing findings graph ends =
     let rows : findings.graph.rows ≡ [] = ap (λ (g : Contents (List ℕ) Row). g.rows) graph in
@@ -110,14 +110,14 @@ sound_nothing findings graph ends =
       ends = subst (AreOfRows findings.graph.rows) (sym ends) (λ k d within. absurd (omega arith));
     }
 
--- the worklist alone has changed
+-- only the worklist has changed
 pub grows_worked : (before : Findings) (graph : Contents (List ℕ) Row) → graph ≡ with_work graph.work before.graph
     → Grows before (record before { graph = graph })
 grows_worked before graph is =
     grows_same before (record before { graph = graph }) refl (ap (λ (g : Contents (List ℕ) Row). g.nodes) is)
     (ap (λ (g : Contents (List ℕ) Row). g.rows) is) refl
 
--- a row that is there is there with more rows
+-- a row that exists is there with more rows
 pub from_before : (before after : Findings) (row : Row) → Grows before after → row.parent < length before.graph.rows
     → ComesFromBefore (length after.graph.rows) row
 from_before before after row grows there = let h = grows.rows in inl (omega (arith, h, there))

@@ -22,7 +22,7 @@ use Rattle.cs_explored.specs.Placing.{RowGraph, child_row, end_of_row, PlacesRow
 use Rattle.cs_explored.specs.Placing.{IsPlain, ArePlainChildren}
 use Rattle.cs_explored.proofs.Growing.{grows_not, grows_on, grows_same, grows_end}
 
--- so many children were placed, and nothing was cut
+-- these children were placed so far, and nothing was cut
 pub record PlacedSoFar (row : ℕ) (made : List Child) (before after : Findings) : Type 0 where
   pub grows : Grows before after
   pub placed : PlacesAll row made before.graph after.graph
@@ -30,12 +30,12 @@ pub record PlacedSoFar (row : ℕ) (made : List Child) (before after : Findings)
   pub rest : KeepsEnds before after
   pub plain : ArePlainChildren made
 
--- so many ends were added
+-- these ends were added so far
 pub record EndedSoFar (row : ℕ) (new : List (Outcome × Box State)) (before after : Findings) : Type 0 where
   pub grows : Grows before after
   pub adds : AddsEnds row new before after
 
--- so many cuts were added
+-- these cuts were added so far
 pub record CutSoFar (new : List Cut) (before after : Findings) : Type 0 where
   pub grows : Grows before after
   pub adds : AddsCuts new before after

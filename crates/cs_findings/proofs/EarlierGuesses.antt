@@ -29,7 +29,7 @@ kept_or_not guess rest event earlier false k before h =
     let other : (guess.event == earlier) ≡ false = grind (arith, nat_tests) in
     h ∙ sym (ap (λ b. if b then Some guess.number else guess_at rest earlier) other)
 
--- the guesses before an event are those of the run
+-- the guesses before an event are kept
 pub guesses_kept : (guesses : List Guess) (event earlier : ℕ) → earlier < event
     → guess_at (filter (λ g. nat_lt g.event event) guesses) earlier ≡ guess_at guesses earlier
 guesses_kept [] event earlier before = refl

@@ -21,7 +21,7 @@ use Rattle.cs_event_runs.proofs.Firsts.{performs_first, HasEvents, adds_first}
 abbrev pub events_of : List Step → List Event
 events_of steps = map (λ (s : Step). s.event) steps
 
--- lists put together in another way
+-- lists joined in another way
 ends_with : (reached between events more : List Event) (x : Event) → reached ≡ between ++ more → between ≡ events ++ x ∷ []
     → reached ≡ (events ++ []) ++ x ∷ more
 ends_with reached between events more x e f =
@@ -43,18 +43,18 @@ same_start (x ∷ xs) (y ∷ ys) more more' e n =
     cc
 
 module _ {State : Type 0} (step : State → Act State) (setting : Setting) where
-  -- where a run from a state and a log comes to
+  -- the log that a run from a state and a log reaches
   abbrev ComesFrom : State → Log → Log → Type 0
   ComesFrom m log reached = ((last : State) × Leads step setting m log last reached) ⊎ ((outcome : Outcome) × EndsFrom step setting m log outcome reached)
 
-  -- the run from a state and a log comes to a log with these events first
+  -- the run from a state and a log reaches a log that begins with these events
   record PassesFrom (m : State) (log : Log) (events : List Event) : Type 0 where
     reached : Log
     more : List Event
     comes : ComesFrom m log reached
     has : reached.events ≡ events ++ more
 
-  -- once its next act is performed
+  -- after its next act is performed
   performed_passes : (m : State) (log : Log) (done : Performed State) (events more : List Event) → perform setting log (step m) ≡ done
       → (log_of done).events ≡ events ++ more → PassesFrom m log events
   performed_passes m log (Continues next reached) events more e has =
@@ -104,7 +104,7 @@ module _ {State : Type 0} (step : State → Act State) (setting : Setting) where
       let it = passes_at shown start empty [] (adds_first setting empty (step start)) (performs_first setting empty (step start)) in
       (it.reached, it.more, it.comes, it.has)
 
-  -- what a run has passed stands first among the events of its end
+  -- the events that a run has passed come first among those at its end
   pub passed_first : {start : State} {outcome : Outcome} {end log : Log} → Ends step setting start outcome end → ComesTo step setting start log
       → (more : List Event) × (end.events ≡ log.events ++ more)
   passed_first ended (inl way) = (end_adds step setting (left_after step setting way.1 ended.leads ended.finishes)).events
@@ -112,7 +112,7 @@ module _ {State : Type 0} (step : State → Act State) (setting : Setting) where
       let same : log ≡ end = (one_end step setting ended other.1).1 in
       ([], sym (append-nil log.events ∙ ap (λ (l : Log). l.events) same))
 
-  -- a run that ends passes one list of each length
+  -- a run that ends passes only one list of each length
   pub passes_one : {start : State} {outcome : Outcome} {end : Log} → Ends step setting start outcome end → (xs ys : List Event)
       → Passes step setting start xs → Passes step setting start ys → length xs ≡ length ys → xs ≡ ys
   passes_one {end = end} ended xs ys one other n =
@@ -125,7 +125,7 @@ module _ {State : Type 0} (step : State → Act State) (setting : Setting) where
       same_start xs ys (one.1 ++ a.0) (other.1 ++ b.0) e n
 
   module _ (event : ℕ) where
-    -- the budget of events lets the event pass at which something is pending
+    -- if something is pending at an event, the budget allows the event
     room_at : (log : Log) (here pending : Pending) (rest : Option Pending) (room next : Bool) → allows_event setting log ≡ room → is_next log event ≡ next
         → (rest ≡ Some pending → event ≤ setting.budgets.events) → (if room then (if next then Some here else rest) else None) ≡ Some pending
         → event ≤ setting.budgets.events

@@ -49,7 +49,7 @@ division_is_not_assumed = refl
 decided_is_not_guessed : has_ground Lp64 (Compare cmp.Less (pos 0) (pos 10)) (Two (pos 5, pos 20) (pos 1, pos 30)) ≡ false
 decided_is_not_guessed = refl
 
--- x-x isn't guessed: its operands lie on one line in all runs
+-- x-x isn't guessed: its operands are on one line in all runs
 difference_with_itself : has_ground Lp64 (Binary Sub Int (pos 0) (pos 0)) (Two (least, least) (greatest, greatest)) ≡ false
 difference_with_itself = refl
 
@@ -64,7 +64,7 @@ calloc_is_guessed = refl
 calloc_is_decided : has_ground Lp64 (Product (pos 1) (pos 1)) (One (pos 2, pos 2)) ≡ false
 calloc_is_decided = refl
 
--- a remainder by 10 is smaller than 10, and the bits of a mask 12 lie from 0 to 12
+-- a remainder by 10 is less than 10, and a number masked with 12 is from 0 to 12
 remainder_is_small : fits_right (Binary Rem Int (pos 25) (pos 10)) (pos 10) ≡ false
 remainder_is_small = refl
 

@@ -2,7 +2,7 @@
 use Rattle.std.proofs.Common.{◌≡◌, ℕ, zero, suc, ◌+◌, List, [], ◌∷◌, ◌++◌, ap, ◌∙◌, refl, append_assoc, append-nil, arith}
 use Rattle.std.specs.List.{flat_map, range_with_len}
 
--- with one number more the list has the next number at its end
+-- a range that is one number longer has the next number at its end
 range_more : (from length : ℕ) → range_with_len from (suc length) ≡ range_with_len from length ++ (from + length) ∷ []
 range_more from zero = ap (λ (n : ℕ). n ∷ []) (omega arith)
 range_more from (suc length) =

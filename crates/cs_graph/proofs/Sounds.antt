@@ -13,7 +13,7 @@ use Rattle.cs_graph.specs.Contents.{contents}
 use Rattle.cs_graph.specs.Adding.{IsSeenAt, IsNew}
 
 module _ {K R : Type 0} where
-  -- where only rows that waited before wait
+  -- if only rows wait that waited before
   sound_fewer : (es : List (K × ℕ)) (rows : List R) (before after : List (ℕ × ℕ)) (nodes : ℕ)
       → ((v r : ℕ) → IsWaiting after v r → IsWaiting before v r) → IsSound es rows before nodes → IsSound es rows after nodes
   sound_fewer es rows before after nodes fewer sound = record {
@@ -24,7 +24,7 @@ module _ {K R : Type 0} where
     most = sound.most;
   }
 
-  -- one was taken, or none waited
+  -- one was taken, or none was waiting
   pub sound_taken : (taken : Option ℕ) (es : List (K × ℕ)) (rows : List R) (before after : List (ℕ × ℕ)) (nodes : ℕ)
       → IfSome taken (λ row. IsGiven row before after) → IfNone taken ((before ≡ []) × (after ≡ [])) → IsSound es rows before nodes
       → IsSound es rows after nodes
@@ -40,7 +40,7 @@ module _ {K : Type 0} (test : K → Bool) where
     passes : test entry.0 ≡ true
     is : entry.1 ≡ number
 
-  -- the number that a key has stands beside it
+  -- the number beside a key that passes the test
   found : (es : List (K × ℕ)) (number : ℕ) → lookup test es ≡ Some number → Found es number
   found [] number e = absurd (none-some number e)
   found (x ∷ es) number e = by (test x.0) refl (λ rest. found es number rest) e
@@ -70,7 +70,7 @@ module _ {K : Type 0} (test : K → Bool) where
   passes_none (x ∷ es) none = simp (none 0 x.0 refl) (passes_none es (λ place other at. none (suc place) other at))
 
 module _ {K R : Type 0} (eq : K → K → Bool) (key : K) where
-  -- a row with an equal key is there
+  -- a row with an equal key exists
   pub seen : (es : List (K × ℕ)) (rows : List R) (work : List (ℕ × ℕ)) (nodes number : ℕ) → IsSound es rows work nodes
       → lookup (eq key) es ≡ Some number → IsSeenAt eq key number (keys_of es)
   seen es rows work nodes number sound e =
@@ -93,7 +93,7 @@ get_last (z ∷ xs) x y (suc place) at = elim (get_last xs x y place at) [
 ]
 
 module _ {K R : Type 0} where
-  -- one was added
+  -- a row was added
   pub sound_added : (key : K) (visits number : ℕ) (row : R) (es fs : List (K × ℕ)) (rows more : List R) (work waiting : List (ℕ × ℕ)) (nodes : ℕ)
       → fs ≡ es ++ (key, number) ∷ [] → more ≡ rows ++ row ∷ [] → HasJoined visits number work waiting → number ≡ length rows
       → length rows < nodes

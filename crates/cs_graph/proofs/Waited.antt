@@ -33,7 +33,7 @@ contains_cases x y xs there =
       | inr rest ↦ inr rest
     ]
 
--- numbers that compare so
+-- how two numbers compare
 compared : (x y : ℕ) (r : Ordering) → nat_cmp x y ≡ r → MatchOrdering r (x < y) (x ≡ y) (y < x)
 compared x y r e = ranked x y r (sym e)
 
@@ -129,7 +129,7 @@ joined visits row before after e v r = (
       ]),
 )
 
--- no row waits twice then, where this one didn't wait
+-- no row waits twice then, if this one didn't wait before
 pub joined_once : (visits row : ℕ) (before after : List Pair) → HasJoined visits row before after → ((other : ℕ) → IsWaiting before other row → ⊥)
     → HasRowsOnce before → HasRowsOnce after
 joined_once visits row before after joins new once v w r one other =
@@ -144,14 +144,14 @@ joined_once visits row before after joins new once v w r one other =
       ]
     ]
 
--- the rows that are left wait once
+-- the rows that remain wait once
 pub left_once : (k : Pair) (before after : List Pair) → before ≡ k ∷ after → HasRowsOnce before → HasRowsOnce after
 left_once k before after e once v w r one other =
     let in_before : (x : ℕ) → IsWaiting after x r → IsWaiting before x r =
     λ x there. subst (λ l. Contains l (x, r)) (sym e) (contains_rest k (x, r) after there) in
     once v w r (in_before v one) (in_before w other)
 
--- a row that is taken
+-- a row is taken
 pub given : (k : Pair) (before after : List Pair) → before ≡ k ∷ after → All (IsLtBy pair_cmp k) after → HasRowsOnce before
     → IsGiven k.1 before after
 given k before after e above once =

@@ -57,7 +57,7 @@ module _ (code : Code) (program : TypedProgram) (entry : ℕ) (budgets : RunBudg
   abbrev pub come : (number : ℕ) (row : Row) → slice_get rows number ≡ Some row → HasSource code program entry budgets names rules rows number row
   come = sourced.rows_come
 
-  -- a state to which a chain leads, and one of its guesses
+  -- a state at the end of a chain, and one of its guesses
   module _ (state : State) (chain : List Event) (asked : Asked)
       (made : IsMadeAt code program entry budgets names rules rows come state chain asked) where
     abbrev sets : Sets
@@ -79,7 +79,7 @@ module _ (code : Code) (program : TypedProgram) (entry : ℕ) (budgets : RunBudg
     pends_same : (v : Valuation) → Fits v sets → Operates event.place (operation_of v made.noted.given) ≡ pending_for event made.noted.noted.meant v
     pends_same v fits = ap (λ (operation : Operation). Operates event.place operation) (sym (made.noted.noted.same v fits))
 
-    -- below the guess all runs list what the row does
+    -- before the guess all runs list what the row's runs do
     below : (w : Valuation) (at : ℕ) → at ≤ made.row.state.value.counters.events
         → guess_at (before_event asked.event (setting_of names budgets state w)).guesses at ≡ guess_at (guesses_of w made.row.state.value.asked) at
     below w at early =
@@ -96,7 +96,7 @@ module _ (code : Code) (program : TypedProgram) (entry : ℕ) (budgets : RunBudg
         (comes_to_question code program entry budgets names rules rows come made (before_event asked.event (setting_of names budgets state w)) w fitted
         (record { goes = record { model = model; limits = refl }; inputs = refl }) (below w))
 
-    -- a run that lists no guess, or below the guess the truths of the state's guesses, lists those of the row's
+    -- a run that lists no guess, or before this guess the truths of the state's guesses, lists those of the row's
     lists_there : (guesses : List Guess) → ListsOwn state made.before (λ earlier. earlier < asked.event) guesses
         → ListsSoFar made.row.state.value made.before guesses
     lists_there guesses (inl none) = inl none
@@ -110,7 +110,7 @@ module _ (code : Code) (program : TypedProgram) (entry : ℕ) (budgets : RunBudg
               (λ has. not (made.guessed at (omega (arith, early, count, number)) has));
         })
 
-    -- a run that has come to the row and goes on by an event shows the operation
+    -- a run that has reached the row and passes one more event shows the operation
     comes_next : (setting : Setting) (v : Valuation) (left rest : Act CodeState) (log later : Log) (one : Step)
         → GoesBy code program budgets names setting → IsAt code program budgets names made.row.state.value setting v left log
         → LeavesAfter (step_of code program entry budgets) setting (first_of setting log left) (one ∷ []) rest later
@@ -195,7 +195,7 @@ module _ (code : Code) (program : TypedProgram) (entry : ℕ) (budgets : RunBudg
       usable = is_usable;
     }
 
-  -- each guess of an end's state was made on the way to its row
+  -- each guess of an end's state was made along the chain of its row
   pub made_at_end : (end : End) (of : IsOfRow code program entry budgets names rules rows end) (chain : List Event) → IsChain rows end.row chain
       → (asked : Asked) → Contains (finite.values end.state.value.asked) asked
       → IsMadeAt code program entry budgets names rules rows come end.state.value chain asked
@@ -231,7 +231,7 @@ module _ (code : Code) (program : TypedProgram) (entry : ℕ) (budgets : RunBudg
       ap (λ (e : End). e.state.value.model) of.same
       ∙ (element (IsEndOf code program budgets names of.from.row.state.value) of.endings of.place of.one of.at of.from.all.endings).model
 
-  -- so all that is said of guesses is so
+  -- so all that states note about guesses is true
   pub are_asked : EachState rows ends (λ number state chain. AreAskedAlong code program entry budgets names rows state chain)
   are_asked = record {
     of_rows = λ number row chain there leads asked among.

@@ -37,7 +37,7 @@ use Rattle.cs_guesses.specs.Inexact.{AreRanges}
 use Rattle.cs_guesses.proofs.Corners.{IsOver, is_over_both}
 use Rattle.cs_guesses.proofs.SameEnds.{named}
 
--- the value of a term depends on its symbol alone
+-- the value of a term depends only on its symbol
 same_value : (term : Lin) (v w : Valuation) → ((s : Sym) → term.sym ≡ Some s → w s.0 ≡ v s.0) → value_of w term ≡ value_of v term
 same_value term v w agree = by term.sym agree
   where
@@ -55,7 +55,7 @@ same_both left right v w agree =
     let second = same_value right v w (λ s over. agree s (inr over)) in
     λ i. (first i, second i)
 
--- and the operands of a question on what it mentions
+-- and the operands of a question depend only on what it mentions
 same_operands : (meant : Question) (v w : Valuation) → ((s : Sym) → Mentions meant s → w s.0 ≡ v s.0)
     → operands_under meant w ≡ operands_under meant v
 same_operands (question.Binary op ty left right) v w agree = same_both left right v w agree
@@ -95,7 +95,7 @@ module _ (names : Naming) (asked : Asked) where
     | inr not ↦ inr (λ both. not both.0)
   ]
 
-  -- such a valuation has own numbers or noted ends
+  -- such a valuation has own numbers or noted ends for the symbols of both operands
   pub ends_moved : (v w : Valuation) → IsAtEnds names asked v w → IsMoved asked v w
   ends_moved v w at = record {
     left = own_or_end asked.left.sym asked.ends.left (λ s is. inl is) at.left;
@@ -119,7 +119,7 @@ module _ (names : Naming) (asked : Asked) where
     mentioned : (s : Sym) → asked.left.sym ≡ Some s → Mentions meant s
     mentioned = left_mentioned asked.asks asked.left asked.right meant asks_it
 
-    -- the numbers of a corner for what the question mentions. It needn't mention the right operand of a conversion
+    -- a corner's numbers for what the question mentions. It needn't mention the right operand of a conversion
     module _ (c : Valuation) where
       numbers : Valuation
       numbers n = elim (over.0 (named n)) [ inl m ↦ c n | inr not ↦ asked.ends.right.low ]
@@ -140,7 +140,7 @@ module _ (names : Naming) (asked : Asked) where
           by (inl is) = absurd (n is)
           by (inr not) = refl
 
-      -- the first valuation with these
+      -- the first valuation with these numbers
       at_corner : Valuation
       at_corner = moved (IsOfOperand names asked) which numbers v
 
@@ -194,7 +194,7 @@ module _ (names : Naming) (asked : Asked) where
     other_corner operand u c corner differs =
         (at_corner c, is_at_ends c u corner, λ same. differs (ap operand (sym (operands_there c)) ∙ same))
 
-    -- corners of the first valuation give the ground to guess under another one, under which the operation isn't followed
+    -- under a valuation for which the operation isn't followed, corners of the first valuation give the ground to guess
     pub reason_at : (model : DataModel) (u : Valuation) → HasOperands sets u meant → HasDivisor sets u meant → ¬ IsFollowed model sets meant u
         → IsGuess model sets meant u (u asked.guess.0) → IsComputable (operation_of u meant) → IsSmall (operands_under meant u)
         → HasReasonAt model names asked meant v u

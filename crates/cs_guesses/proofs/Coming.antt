@@ -27,7 +27,7 @@ use Rattle.cs_guesses.proofs.ProgramRuns.{runs_too, same_inputs}
 module _ (code : Code) (program : TypedProgram) (entry : ℕ) (budgets : RunBudgets) (names : Naming) (rules : List Rule) (rows : List Row)
     (come : (number : ℕ) (row : Row) → slice_get rows number ≡ Some row → HasSource code program entry budgets names rules rows number row)
     (lowered : IsLoweredEntry code program entry) where
-  -- runs that list what the row's state has guessed come to the question
+  -- runs that list what the row's state has guessed reach the question
   pub comes_too : (state : State) (chain : List Event) (asked : Asked) (made : IsMadeAt code program entry budgets names rules rows come state chain asked)
       (other : ProgramRun) (w : Valuation) → Fits w made.noted.sets → other.inputs ≡ inputs_of names.syms w
       → ((at : ℕ) → at ≤ made.row.state.value.counters.events

@@ -46,7 +46,7 @@ use Rattle.cs_guesses.proofs.Operands.{divisor_of}
 use Rattle.cs_guesses.proofs.Origins.{IsMadeAt, made_along}
 use Rattle.cs_guesses.proofs.Sizes.{computable, small}
 
--- lists that agree up to as many elements and one more
+-- equal lists have equal first parts of the same length, and the same next element
 split_alike : {A : Type 0} (xs ys : List A) (x y : A) (us ws : List A) → length xs ≡ length ys → xs ++ x ∷ us ≡ ys ++ y ∷ ws
     → (xs ≡ ys) × (x ≡ y)
 split_alike [] [] x y us ws count same = let first : x ≡ y = cc in (refl, first)
@@ -58,7 +58,7 @@ split_alike (a ∷ xs) (b ∷ ys) x y us ws count same =
     let rest = split_alike xs ys x y us ws (omega (arith, count)) tails in
     (λ i. first i ∷ rest.0 i, rest.1)
 
--- what is noted of a question of integer code is that of one question
+-- for integer code, what is noted determines the question
 one_question : (kind : Asks) (left right : Lin) (one other : Question) (v : Valuation) → IsQuestionOf kind left right one
     → IsQuestionOf kind left right other → IsAskedByIntegers (operation_of v one) → one ≡ other
 one_question (asks.Binary op ty) left right one other v first second is = first ∙ sym second
@@ -79,7 +79,7 @@ module _ (code : Code) (program : TypedProgram) (entry : ℕ) (budgets : RunBudg
   abbrev MadeAt : State → List Event → Asked → Type 0
   MadeAt state chain asked = IsMadeAt code program entry budgets names rules rows sources state chain asked
 
-  -- a guess of a state that was made on the way, and a valuation that fits
+  -- a guess of a state that was made along its chain, and a valuation that fits
   module _ (state : State) (chain : List Event) (asked : Asked) (made : MadeAt state chain asked) (w : Valuation) (fits : Fits w state.constraints) where
     abbrev meant : Question
     meant = made.noted.noted.meant
@@ -107,7 +107,7 @@ module _ (code : Code) (program : TypedProgram) (entry : ℕ) (budgets : RunBudg
         (computable made.noted.sets w fitted meant made.noted.noted.operands by_integers)
         (small made.noted.sets w fitted meant made.noted.noted.operands by_integers)
 
-  -- a state whose guesses were made on the way, one of these, and a valuation that fits
+  -- a state whose guesses were made along its chain, one of them, and a valuation that fits
   module _ (state : State) (chain : List Event) (made : (asked : Asked) → Contains (finite.values state.asked) asked → MadeAt state chain asked)
       (asked : Asked) (among : Contains (finite.values state.asked) asked) (v : Valuation) (fits : Fits v state.constraints) where
     abbrev here : MadeAt state chain asked
@@ -122,7 +122,7 @@ module _ (code : Code) (program : TypedProgram) (entry : ℕ) (budgets : RunBudg
     count : here.row.state.value.counters.events ≡ length here.before
     count = passed code program entry budgets names rules rows sources here.leads here.row here.there
 
-    -- its own run and those of its corners
+    -- the state's own run and those of its corners
     own_comes : Comes program entry budgets (run_at names state v) here.before (Operates here.child.event.place (operation_of v asks_it))
     own_comes =
         comes_too code program entry budgets names rules rows sources lowered state chain asked here (run_at names state v) v
@@ -142,7 +142,7 @@ module _ (code : Code) (program : TypedProgram) (entry : ℕ) (budgets : RunBudg
           small here.noted.sets w there asks_it here.noted.noted.operands by_integers,
         )
 
-    -- a corner of a later guess fits the row before that one, on the way to which the guess was made, too
+    -- a corner of a later guess also fits the row before that guess, on whose chain this guess was made
     module _ (other : Asked) (w : Valuation) (is_among : Contains (finite.values state.asked) other) (after : asked.event < other.event)
         (at_ends : IsAtEnds names other v w) where
       abbrev later : MadeAt state chain other
@@ -160,7 +160,7 @@ module _ (code : Code) (program : TypedProgram) (entry : ℕ) (budgets : RunBudg
       again =
           made_along code program entry budgets names rules rows sources later.leads later.row later.there asked (later.among asked after among)
 
-      -- by the same event
+      -- at the same event
       same_events : (again.before ≡ here.before) × (again.child.event ≡ here.child.event)
       same_events =
           let one = again.event in

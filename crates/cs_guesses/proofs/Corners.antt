@@ -24,7 +24,7 @@ use Rattle.cs_corners.proofs.Rectangles.{AreOf, which_of}
 use Rattle.cs_guesses.specs.Asking.{HasOwnOrEnd, IsMoved, HasGround, IsUsable}
 use Rattle.cs_guesses.specs.Inexact.{AreRanges}
 
--- a question mentions no symbols but those of these operands, and which is decidable
+-- a question mentions only symbols of these operands, and whether it mentions one is decidable
 abbrev pub IsOver : Lin → Lin → Question → Type 0
 IsOver left right meant = ((s : Sym) → Mentions meant s ⊎ (¬ Mentions meant s)) × ((s : Sym) → Mentions meant s → AreOf left right s)
 

@@ -13,11 +13,11 @@ use Rattle.cs_corners.proofs.Moving.{is_over}
 use Rattle.cs_guesses.specs.Asking.{IsMoved}
 use Rattle.cs_guesses.proofs.SameEnds.{named}
 
--- each number may be a symbol's own
+-- a valuation has its own numbers
 pub moved_nowhere : (asked : Asked) (v : Valuation) → IsMoved asked v v
 moved_nowhere asked v = record { left = λ sym is. inl refl; right = λ sym is. inl refl; others = λ other left right. refl }
 
--- such a valuation fits the sets whose ends were noted, where the first one does
+-- such a valuation fits the sets whose ends were noted, if the first one does
 pub moved_fits : (sets : Sets) (asked : Asked) (v w : Valuation) → IsRangeOf sets asked.left.sym asked.ends.left
     → IsRangeOf sets asked.right.sym asked.ends.right → Fits v sets → IsMoved asked v w → Fits w sets
 moved_fits sets asked v w left right fits moved n set known = elim (is_over asked.left.sym (named n)) [

@@ -52,7 +52,7 @@ use Rattle.cs_guesses.proofs.Origins.{IsMadeAt, comes_to_question, made_along}
 use Rattle.cs_guesses.proofs.ProgramRuns.{after_start}
 use Rattle.cs_guesses.proofs.SameEnds.{named}
 
--- valuations agree on the symbols that have names
+-- valuations agree on the named symbols
 abbrev AgreeOn : List SymName → Valuation → Valuation → Type 0
 AgreeOn names v w = (n : ℕ) (name : SymName) → slice_get names n ≡ Some name → w n ≡ v n
 
@@ -91,7 +91,7 @@ module _ (code : Code) (program : TypedProgram) (entry : ℕ) (budgets : RunBudg
       subst (λ (n : ℕ). IsPending step setting start (suc n) pending) count
       (subst (IsPending step setting start (suc (length there.steps))) there.pends (shown_is_pending step setting start shows))
 
-  -- a run comes to one operation
+  -- a run reaches only one operation
   one_operation : (at : Place) (one other : Operation) → PassesTo code program entry budgets setting events (Operates at one)
       → PassesTo code program entry budgets setting events (Operates at other) → one ≡ other
   one_operation at one other first second =
@@ -115,7 +115,7 @@ module _ (code : Code) (program : TypedProgram) (entry : ℕ) (budgets : RunBudg
   abbrev setting_at : Valuation → Setting
   setting_at v = setting_with program budgets (input_of names.syms v) (guesses_of v row.asked)
 
-  -- the operation is the same under valuations that agree on the symbols that have names
+  -- the operation is the same under valuations that agree on the named symbols
   same_question : (v w : Valuation) → Fits v sets → Fits w sets → AgreeOn names.syms v w → operation_of v meant ≡ operation_of w meant
   same_question v w fits others agree =
       made.noted.noted.same v fits

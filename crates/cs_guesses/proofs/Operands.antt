@@ -12,7 +12,7 @@ use Rattle.cs_eval.specs.Ready.{IsReadyPart, HasReadyOperands}
 use Rattle.cs_corners.specs.Operands.{IsOperand, HasOperands, HasDivisorOf, HasDivisor}
 use Rattle.cs_successors.specs.Coming.{IsCheckedRight, IsAskedByIntegers}
 
--- the question isn't the order test of `calloc`, whose operands have to count besides
+-- the question isn't the order test of `calloc`, whose operands also have to be numbers from 0
 abbrev pub IsNoProduct : Question → Type 0
 IsNoProduct (question.Product count size) = ⊥
 IsNoProduct other = Unit {0}
@@ -49,7 +49,7 @@ module _ (sets : Sets) where
     divisor_by Xor right some = tt
     divisor_by Or right some = tt
 
-    -- integer code divides by no 0
+    -- integer code doesn't divide by 0
     pub divisor_of : (asked : Question) → IsAskedByIntegers (operation_of v asked) → HasDivisor sets v asked
     divisor_of (question.Binary op ty left right) is = divisor_by op right is
     divisor_of (question.Unary op ty term) is = tt
@@ -62,7 +62,7 @@ module _ (sets : Sets) where
     divisor_of (question.Test tested term) is = tt
     divisor_of (question.Callee function) is = tt
 
-    -- and asks for no order test of an allocation
+    -- and doesn't ask for the order test of an allocation
     pub no_product : (asked : Question) → IsAskedByIntegers (operation_of v asked) → IsNoProduct asked
     no_product (question.Product count size) is = is
     no_product (question.Binary op ty left right) is = tt

@@ -44,14 +44,14 @@ nobody : (asked : Asked) → Contains [] asked → ⊥
 nobody asked (k, within, at) = omega (arith, within)
 
 module _ {M : Type 0} (step : M → Act M) (setting : Setting) where
-  -- after some steps a run shows one more
+  -- after some steps a run shows the next one
   shows_then : {begin : First M} {left : Act M} {log : Log} {steps more : List Step} {one : Step} → LeavesAfter step setting begin steps left log
       → ShowsAfter step setting (first_of setting log left) more one → ShowsAfter step setting begin (steps ++ more) one
   shows_then (now e) onward = shows_later e onward
   shows_then (later e rest) onward = shows_later e (shows_then rest onward)
   shows_then (unseen e rest) onward = shows_unseen e (shows_then rest onward)
 
-  -- a step that is shown next is passed, and something is left
+  -- a step that is shown next is passed, and something remains after it
   pub record PassesNext (begin : First M) (one : Step) : Type 0 where
     pub rest : Act M
     pub end : Log
@@ -78,8 +78,8 @@ module _ (code : Code) (program : TypedProgram) (entry : ℕ) (budgets : RunBudg
 
 module _ (code : Code) (program : TypedProgram) (entry : ℕ) (budgets : RunBudgets) (names : Naming) (rules : List Rule) (rows : List Row)
     (come : (number : ℕ) (row : Row) → slice_get rows number ≡ Some row → HasSource code program entry budgets names rules rows number row) where
-  -- a guess of a state to which a chain leads was made at a child of a row on the way. The state keeps to the child's constraints, and lists what that row
-  -- does at each event before
+  -- a guess of a state at the end of a chain was made at a child of a row on the chain. The state's valuations fit the child's constraints, and its guesses
+  -- before are those of the row
   pub record IsMadeAt (state : State) (chain : List Event) (asked : Asked) : Type 0 where
     pub number : ℕ
     pub row : Row
@@ -98,7 +98,7 @@ module _ (code : Code) (program : TypedProgram) (entry : ℕ) (budgets : RunBudg
     pub guessed : (at : ℕ) → at < asked.event → IsGuessedAt state at → IsGuessedAt row.state.value at
     pub among : (one : Asked) → one.event < asked.event → Contains (finite.values state.asked) one → Contains (finite.values row.state.value.asked) one
 
-  -- a run with the inputs of a valuation that fits the sets of the question, which lists what the row's state has guessed, comes to it
+  -- a run whose inputs are those of a valuation that fits the sets of the question, and which lists what the row's state has guessed, reaches it
   pub comes_to_question : {state : State} {chain : List Event} {asked : Asked} (made : IsMadeAt state chain asked) (setting : Setting) (w : Valuation)
       → Fits w made.noted.sets → IsRunOf code program entry budgets names rules setting w
       → ListsAs code program entry budgets names rules setting w made.row.state.value
@@ -161,7 +161,7 @@ module _ (code : Code) (program : TypedProgram) (entry : ℕ) (budgets : RunBudg
                   )
             ]
 
-    -- what was guessed before is guessed yet, and nothing else below the child's event
+    -- earlier guesses are kept, and there are no others before the child's event
     still_guessed : (at : ℕ) → IsGuessedAt parent at → IsGuessedAt state at
     still_guessed at (asked, among, there) =
         let has = guess_kept code program entry budgets names rules rows come number row of numbers at asked.guess (asked, among, there, refl) in
@@ -184,7 +184,7 @@ module _ (code : Code) (program : TypedProgram) (entry : ℕ) (budgets : RunBudg
     same_lists v at below =
         listed_before state.counters.events v parent.counters.events is.number of.child.guess parent.asked state.asked is.asked numbers at below
 
-    -- a guess of the parent's
+    -- a guess of the parent
     made_before : (asked : Asked) → Contains (finite.values parent.asked) asked → IsMadeAt parent events asked
         → IsMadeAt state (events ++ of.child.event ∷ []) asked
     made_before asked among made =
@@ -234,7 +234,7 @@ module _ (code : Code) (program : TypedProgram) (entry : ℕ) (budgets : RunBudg
           among = λ one below has. was_among one (omega (arith, below, at)) has;
         }
 
-  -- each guess of a row's state was made on the way
+  -- each guess of a row's state was made along its chain
   pub made_along : {number : ℕ} {chain : List Event} → IsChain rows number chain → (row : Row) → slice_get rows number ≡ Some row
       → (asked : Asked) → Contains (finite.values row.state.value.asked) asked → IsMadeAt row.state.value chain asked
   made_along (first at none) row there asked among =

@@ -41,7 +41,7 @@ module _ (code : Code) (program : TypedProgram) (entry : ℕ) (budgets : RunBudg
   abbrev step : CodeState → Act CodeState
   step = code_step code program budgets
 
-  -- what a run shows, it shows after its beginning
+  -- what a run shows, it shows after its silent beginning
   pub after_start : (setting : Setting) {steps : List Step} {one : Step} → ShowsAfter step setting (first_in code program entry budgets setting) steps one
       → ShowsAfter step setting (first_of setting empty (step (start_of code program entry budgets setting))) steps one
   after_start setting (now e) = cc
@@ -88,7 +88,7 @@ same_input (GuessAt event ∷ names) v path = same_input names (λ symbol. v (su
 pub same_inputs : (names : List SymName) (v : Valuation) → number_at (inputs_of names v) ≡ input_of names v
 same_inputs names v = λ i path. same_input names v path i
 
--- at which events guesses are listed doesn't depend on the valuation
+-- the events of the listed guesses don't depend on the valuation
 pub listed_alike : (v w : Valuation) (at : ℕ) (asked : List Asked)
     → is_some (guess_at (map (guess_of w) asked) at) ≡ is_some (guess_at (map (guess_of v) asked) at)
 listed_alike v w at [] = refl
@@ -101,7 +101,7 @@ listed_alike v w at (one ∷ asked) = elim (eqb_tells one.event at) [
       ∙ sym (ap (λ (b : Bool). is_some (if b then Some (v one.guess.0) else guess_at (map (guess_of v) asked) at)) apart.0)
 ]
 
--- each element of a list's image comes from one of the list
+-- each element of a list's image is the image of an element
 pub from_mapped : {A B : Type 0} (f : A → B) (xs : List A) (y : B) → Contains (map f xs) y → (x : A) × Contains xs x × (f x ≡ y)
 from_mapped f [] y (k, within, at) = absurd (omega (arith, within))
 from_mapped f (x ∷ xs) y (zero, within, at) = (x, (zero, omega arith, refl), at)

@@ -49,7 +49,7 @@ use Rattle.cs_guesses.proofs.Coming.{comes_too}
 use Rattle.cs_guesses.proofs.Origins.{IsMadeAt, made_along}
 use Rattle.cs_guesses.proofs.ProgramRuns.{listed_alike, from_mapped}
 
--- a test that fails beside another, and one that holds
+-- a conjunction with a test that fails, and one with a test that holds
 and_false : (a b : Bool) → b ≡ false → (a && b) ≡ false
 and_false true b is = is
 and_false false b is = refl
@@ -64,7 +64,7 @@ module _ (code : Code) (program : TypedProgram) (entry : ℕ) (budgets : RunBudg
   abbrev sources : (number : ℕ) (row : Row) → slice_get rows number ≡ Some row → HasSource code program entry budgets names rules rows number row
   sources = come code program entry budgets names rules rows ends Are sourced
 
-  -- a guess of a state, where the guesses of the runs of the row before it are real
+  -- a guess of a state, if the guesses of the runs of the row before it are real
   module _ (state : State) (chain : List Event) (asked : Asked) (made : IsMadeAt code program entry budgets names rules rows sources state chain asked)
       (earlier : (w : Valuation) → Fits w made.row.state.value.constraints → AreReal program entry budgets (run_at names made.row.state.value w))
       (v : Valuation) (fits : Fits v state.constraints) where
@@ -89,7 +89,7 @@ module _ (code : Code) (program : TypedProgram) (entry : ℕ) (budgets : RunBudg
     inexact : ¬ IsFollowed program.model made.noted.sets meant v
     inexact = not_followed code program entry budgets names rules rows ends Are sourced state chain asked made v fits
 
-    -- runs that list what the row's state has guessed come to the question
+    -- runs that list what the row's state has guessed reach the question
     come_too : (other : ProgramRun) (w : Valuation) → Fits w made.noted.sets → other.inputs ≡ inputs_of names.syms w
         → ((at : ℕ) → at ≤ row.counters.events → guess_at other.guesses at ≡ guess_at (guesses_of w row.asked) at)
         → Comes program entry budgets other made.before (Operates made.child.event.place (operation_of w meant))
@@ -100,7 +100,7 @@ module _ (code : Code) (program : TypedProgram) (entry : ℕ) (budgets : RunBudg
     IsOther = ComesToo program entry budgets (AreRealBelow program entry budgets event) run (guess_of v asked) made.before made.child.event.place
         (operation_of v meant)
 
-    -- it lists guesses at just the events below at which the run does
+    -- it lists guesses at exactly the events before this one at which the run does
     none_late : (w : Valuation) (at : ℕ) → row.counters.events < at → guess_at (guesses_of w row.asked) at ≡ None
     none_late w at late = none_listed w at (finite.values row.asked) all_before
       where
@@ -174,12 +174,12 @@ module _ (code : Code) (program : TypedProgram) (entry : ℕ) (budgets : RunBudg
       };
     }
 
-  -- all rows to which fewer events lead
+  -- all rows with shorter chains
   abbrev AreRealUnder : ℕ → Type 0
   AreRealUnder bound = (number : ℕ) (row : Row) (chain : List Event) → slice_get rows number ≡ Some row → IsChain rows number chain
       → length chain < bound → HasRealGuesses program entry budgets names row.state.value
 
-  -- a state whose guesses were made on the way
+  -- a state whose guesses were made along its chain
   real_state : (state : State) (chain : List Event) → ((asked : Asked) → Contains (finite.values state.asked) asked
       → IsMadeAt code program entry budgets names rules rows sources state chain asked)
       → AreRealUnder (length chain) → HasRealGuesses program entry budgets names state

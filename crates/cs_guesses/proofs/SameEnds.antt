@@ -33,11 +33,11 @@ use Rattle.cs_corners.proofs.Rectangles.{AreOf, which_of, corner, corner_left, c
 use Rattle.cs_corners.proofs.Terms.{IsStretched, fixed_or_movable, stretched}
 use Rattle.cs_guesses.proofs.Operands.{IsNoProduct}
 
--- the symbol with a number
+-- the symbol with this number
 abbrev pub named : ℕ → Sym
 named number = record { 0 = number }
 
--- a number that lies between two of those that it has under valuations that fit
+-- a value between two that a number has under valuations that fit
 pub record LiesBetween (others : Sets) (number : Numbers) (value : ℤ) : Type 0 where
   pub low : Valuation
   pub high : Valuation
@@ -46,7 +46,7 @@ pub record LiesBetween (others : Sets) (number : Numbers) (value : ℤ) : Type 0
   pub least : number low ≤ℤ value
   pub greatest : value ≤ℤ number high
 
--- a comparison with 0 that holds of both holds of each number between, and so does one that holds of neither
+-- a comparison with 0 that holds at both ends holds between them, and one that fails at both fails between them
 below : (x high : ℤ) → x ≤ℤ high → int_lt high (pos 0) ≡ true → int_lt x (pos 0) ≡ true
 below x high upto e = grind (arith, ints)
 
@@ -81,7 +81,7 @@ module _ (sets others : Sets) (number : Numbers) (between : (v : Valuation) → 
   is_above : Passes More true
   is_above always v fits = let b = between v fits in above (number v) (number b.low) b.least (always b.low b.low_fits)
 
-  -- so a comparison that is decided by other ranges is decided by these
+  -- so a comparison that is decided under the other ranges is decided under these
   decided : (op : CmpOp) → IsDecided others op number → IsDecided sets op number
   decided Equal (inl always) = inl (is_above always)
   decided Equal (inr always) = inr (is_below always)
@@ -96,7 +96,7 @@ module _ (sets others : Sets) (number : Numbers) (between : (v : Valuation) → 
   decided AtLeast (inl always) = inl (λ v fits. let b = between v fits in at_least (number v) (number b.low) b.least (always b.low b.low_fits))
   decided AtLeast (inr always) = inr (λ v fits. let b = between v fits in not_at_least (number v) (number b.high) b.greatest (always b.high b.high_fits))
 
--- a term has the same value where its symbol has the same number
+-- a term has the same value if its symbol has the same number
 same_value : (term : Lin) (v w : Valuation) → ((s : Sym) → term.sym ≡ Some s → w s.0 ≡ v s.0) → value_of w term ≡ value_of v term
 same_value term v w same = by term.sym same
   where
@@ -105,9 +105,9 @@ same_value term v w same = by term.sym same
     by None same = refl
     by (Some s) same = rw (same s refl) refl
 
--- a symbol whose range has the same ends by both sets
+-- a symbol whose range has the same ends in both sets
 module _ (sets others : Sets) (symbol : Option Sym) (ends : Interval) (here : IsRangeOf sets symbol ends) (there : IsRangeOf others symbol ends) where
-  -- has one number by both or none
+  -- has only one number in both or in neither
   only_here : (s : Sym) (over : symbol ≡ Some s) (set : List Interval) (number : ℤ) → set_of others s.0 ≡ Some set → IsOnly set number
       → IsOnly (here s over).0 number
   only_here s over set number known only =
@@ -121,7 +121,7 @@ module _ (sets others : Sets) (symbol : Option Sym) (ends : Interval) (here : Is
         alone = λ y member. let p = near.2.least y member in let q = near.3.greatest y member in omega (arith, ints, low, high);
       }
 
-  -- and an end by the one is an end by the other
+  -- and an end in one is an end in the other
   end_there : (s : Sym) → symbol ≡ Some s → (number : ℤ) → IsEnd sets s number → IsEnd others s number
   end_there s over number is =
       let near = here s over in
@@ -174,7 +174,7 @@ module _ (sets others : Sets) (inhabited : AreInhabited sets) (there_inhabited :
   unfolding base
   base_fits = (fitting others there_inhabited).1
 
-  -- sums and differences of two operands over different symbols lie between those at ends, which the other ranges have too
+  -- sums and differences of two operands over different symbols are between those at the ends, which the other ranges have too
   module _ (all : AllEnds sets) (l : IsOperand sets left) (r : IsOperand sets right) (h : AreApart sets all left right) where
     a : IsStretched sets left h.first.symbol
     a = stretched sets all left l.is_term h.first
@@ -267,7 +267,7 @@ module _ (sets others : Sets) (inhabited : AreInhabited sets) (there_inhabited :
     | inr h ↦ inr (decided sets others (λ w. value_of w left +ℤ value_of w right) (sum_between (all_ends sets inhabited) l r h) AtLeast known)
   ]
 
-  -- a division that comes out even whatever the other symbols are
+  -- a division without a remainder doesn't depend on other symbols
   divided : (size : ℕ) → IsDivided others left right size → IsDivided sets left right size
   divided size even v fits =
       let same_left = same_value left v w (λ s over. moved_here (AreOf left right) (which_of left right) v base s (inl over)) in
@@ -324,12 +324,12 @@ module _ (sets others : Sets) (inhabited : AreInhabited sets) (there_inhabited :
   may model Xor ty v number guess = guess
   may model Or ty v number guess = guess
 
-  -- what the other ranges follow is followed
+  -- what is followed under the other ranges is followed under these
   pub followed_here : (model : DataModel) (v : Valuation) (kind : Asks) (meant : Question) → IsQuestionOf kind left right meant → IsNoProduct meant
       → HasOperands sets v meant → IsFollowed model others meant v → IsFollowed model sets meant v
   followed_here model v kind meant is none operands followed = by kind meant is none operands followed
     where
-      -- a question that is one of these
+      -- the lemma for one question
       Passes : Question → Type 0
       Passes meant = IsNoProduct meant → HasOperands sets v meant → IsFollowed model others meant v → IsFollowed model sets meant v
 
@@ -355,7 +355,7 @@ module _ (sets others : Sets) (inhabited : AreInhabited sets) (there_inhabited :
         | inr (inr empty) ↦ inr (inr empty)
       ])
 
-  -- and what may be guessed may be guessed with the other ranges
+  -- and what may be guessed under these ranges may be guessed under the others
   pub guessed_there : (model : DataModel) (v : Valuation) (number : ℤ) (kind : Asks) (meant : Question) → IsQuestionOf kind left right meant
       → IsGuess model sets meant v number → IsGuess model others meant v number
   guessed_there model v number kind meant is = by kind meant is

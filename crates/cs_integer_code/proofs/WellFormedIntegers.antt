@@ -40,7 +40,7 @@ variable_is (w ∷ others) zero v all there =
     (integer_of w.ty (and_parts (is_integer_type w.ty) (are_integer_variables others) all).0)
 variable_is (w ∷ others) (suc number) v all there = variable_is others number v (and_parts (is_integer_type w.ty) (are_integer_variables others) all).1 there
 
--- the only form of these that names an object
+-- the only one of these forms that is an object
 local_form : (form : Form) → (is_object form && is_integer_form form) ≡ true → (declaration : ℕ) × (form ≡ Local declaration)
 local_form (Local declaration) is = (declaration, refl)
 local_form other is = absurd (false≢true is)
@@ -181,7 +181,7 @@ routine_integers p (r ∷ routines) h zero body integers is =
     statement_integers (setting_of p r body) parts.0 body (subst (λ b. is_integer_body b ≡ true) is parts.1) well.statement
 routine_integers p (r ∷ routines) h (suc function) body integers is = routine_integers p routines h.1 function body integers is
 
--- a function that works with integers alone
+-- an integer function
 pub function_integers : (p : TypedProgram) → IsWellFormed p → (function : ℕ) → IsIntegerFunction p function → FunctionIsOfIntegers p function
 function_integers p h function integers body is =
     routine_integers p p.routines (recursion_from_All (IsWellRoutine p) p.routines h.routines) function body integers is

@@ -12,7 +12,7 @@ and_true : (b : Bool) → (b && true) ≡ b
 and_true true = refl
 and_true false = refl
 
--- both sides of three equations that all hold
+-- three equations hold together
 pub three_hold : (one one' other other' third third' : Bool) → one ≡ one' → other ≡ other' → third ≡ third'
     → (one && (other && third)) ≡ (one' && (other' && third'))
 three_hold one one' other other' third third' first second last = λ i. first i && (second i && last i)

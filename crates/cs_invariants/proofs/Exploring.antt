@@ -43,18 +43,18 @@ use Rattle.cs_coverage.proofs.Positions.{covers_positions, covers_own, covers_li
 use Rattle.cs_coverage.proofs.StartBlocks.{no_blocks}
 use Rattle.cs_invariants.specs.Exploring.{program_of, ExploresIntegers, IsOpenGraph, IsClosedAtLast}
 
--- these children and ends are all that comes of a state, and nothing is cut there, if it is one of integer code
+-- these children and ends are all successors of a state, and nothing is cut there, if it is one of integer code
 abbrev pub ComesOf : Exploration → Naming → State → List Child → List StateEnd → List Cut → Type 0
 ComesOf exploration given state made ends cuts =
     (names : Naming) (program : TypedProgram) → Explores exploration given names program
     → IsIntegerState (code_of exploration) program (limits_of exploration) names state
     → ComesOfState (code_of exploration) program (limits_of exploration) names exploration.rules.now state made ends × (cuts ≡ [])
 
--- nodes that are there later were there before
+-- if no node is cut in the end, none was before
 all_before : (cuts more : List Cut) → HasAllNodes (cuts ++ more) → HasAllNodes cuts
 all_before cuts more all nodes is = all nodes (Contains-append_left cuts more (Nodes nodes) is)
 
--- where a row was refused, something was cut
+-- if a row was refused, something was cut
 pub full_for_nodes : (before after : Findings) → after.cuts.items ≡ before.cuts.items ++ Nodes before.nodes ∷ [] → ¬ HasAllNodes after.cuts.items
 full_for_nodes before after cuts all =
     all before.nodes (subst (λ (l : List Cut). Contains l (Nodes before.nodes)) (sym cuts) (Contains-push before.cuts.items (Nodes before.nodes)))
@@ -98,7 +98,7 @@ module _ (exploration : Exploration) (entry : ℕ) (explores : ExploresIntegers 
         is_beginning code program entry budgets (naming before.tables) names state.value start are.extend are.numbered once explores.works differ
         (no_blocks code program entry (naming before.tables) state.value start explores.works.parameters))))
 
-  -- the next row is given
+  -- the next row is taken from the worklist
   pub given_graph : (before : Findings) (graph : RowGraph) (row : ℕ) → IsGiven row before.graph.work graph.work
       → graph ≡ with_work graph.work before.graph
       → IsOpenGraph exploration entry Waits before → IsOpenGraph exploration entry (IsOpen row) (record before { graph = graph })
@@ -113,7 +113,7 @@ module _ (exploration : Exploration) (entry : ℕ) (explores : ExploresIntegers 
       (sym (ap (λ (g : RowGraph). g.rows) rest))
       (graph_done code program entry budgets rules (naming findings.tables) findings.graph findings.ends.items none (open_graph all))
 
-  -- all that comes of a row was added
+  -- all successors of a row were added
   module _ (exact : KeysAreExact) (before ended cut after : Findings) (tables : Tables) (row : ℕ) (from : Row)
       (there : slice_get before.graph.rows row ≡ Some from) (made : List Child) (endings : List StateEnd) (cuts : List Cut)
       (extends : Extends (naming before.tables) (naming tables)) (adds : AddsEnds row endings (record before { tables = tables }) ended)
@@ -180,10 +180,10 @@ module _ (exploration : Exploration) (entry : ℕ) (explores : ExploresIntegers 
       pub covered : CoversPositions code program entry budgets explored
       covered = covers_positions code program entry budgets rules explored last_numbered closed_at_last
 
-      -- with the phases of their events, and the runs' own numbers
+      -- with the phases of their events, under the runs' own numbers
       pub own_covered : CoversOwn code program entry budgets rules explored
       own_covered = covers_own code program entry budgets rules explored last_numbered closed_at_last
 
-      -- those of all symbols of their live parts
+      -- and under those of all symbols of their live parts
       pub live_covered : Covers code program entry budgets rules explored
       live_covered = covers_live code program entry budgets rules explored last_numbered closed_at_last

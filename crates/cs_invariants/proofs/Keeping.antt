@@ -84,7 +84,7 @@ module _ (exploration : Exploration) (entry : ℕ) (explores : ExploresIntegers 
       uncut = begun_uncut added placed;
     }
 
-  -- the next row is given
+  -- the next row is taken from the worklist
   pub given_kept : (before : Findings) (graph : RowGraph) (row : ℕ) → IsGiven row before.graph.work graph.work
       → graph ≡ with_work graph.work before.graph
       → IsKept exploration entry Waits before → IsKept exploration entry (IsOpen row) (record before { graph = graph })
@@ -95,7 +95,7 @@ module _ (exploration : Exploration) (entry : ℕ) (explores : ExploresIntegers 
     uncut = subst (λ (g : RowGraph). IsUncut (record before { graph = g })) (sym rest) kept.uncut;
   }
 
-  -- all that comes of a row was added, as far as the budget of nodes allowed
+  -- the successors of a row were added, as far as the budget of nodes allowed
   module _ (exact : KeysAreExact) (before ended cut after : Findings) (tables : Tables) (row : ℕ) (from : Row)
       (there : slice_get before.graph.rows row ≡ Some from) (made : List Child) (endings : List StateEnd) (cuts : List Cut)
       (extends : Extends (naming before.tables) (naming tables)) (adds : AddsEnds row endings (record before { tables = tables }) ended)

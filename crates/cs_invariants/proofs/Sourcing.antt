@@ -64,7 +64,7 @@ module _ (exploration : Exploration) (entry : ℕ) (explores : ExploresIntegers 
   abbrev IsGraph : Naming → RowGraph → List End → (List (ℕ × ℕ) → ℕ → Type 0) → Type 0
   IsGraph names graph ends Open = IsSourcedGraph code program entry budgets names rules graph ends Open
 
-  -- one more row was refused, which comes from a row too
+  -- one more row was refused, whose source is a row too
   abbrev pub IsRefused : Findings → Type 0
   IsRefused findings = HasRefused exploration entry (naming findings.tables) findings.graph.rows findings.ends.items findings.graph.nodes
 
@@ -113,14 +113,14 @@ module _ (exploration : Exploration) (entry : ℕ) (explores : ExploresIntegers 
           (sourced_first code program entry budgets names rules (first_row state) (λ number. ⊥) (first_is names known each)));
     }
 
-  -- the next row is given
+  -- the next row is taken from the worklist
   pub given_sources : (before : Findings) (graph : RowGraph) (row : ℕ) → IsGiven row before.graph.work graph.work
       → graph ≡ with_work graph.work before.graph
       → HasSources exploration entry Waits before → HasSources exploration entry (IsOpen row) (record before { graph = graph })
   given_sources before graph row given rest sources names are each =
       sources_given code program entry budgets names rules before.graph graph before.ends.items row given rest (sources names are each)
 
-  -- what came of a row was added, as far as the budget of nodes allowed
+  -- the successors of a row were added, as far as the budget of nodes allowed
   module _ (before ended cut after : Findings) (tables : Tables) (row : ℕ) (from : Row) (there : slice_get before.graph.rows row ≡ Some from)
       (made : List Child) (endings : List StateEnd) (cuts : List Cut) (extends : Extends (naming before.tables) (naming tables))
       (adds : AddsEnds row endings (record before { tables = tables }) ended) (cutting : AddsCuts cuts ended cut) (keeps : KeepsEnds cut after)
@@ -139,7 +139,7 @@ module _ (exploration : Exploration) (entry : ℕ) (explores : ExploresIntegers 
     first_placed true places = record { some = made; left = []; all = sym (append-nil made); placed = places.0 }
     first_placed false places = places.0.first
 
-    -- all that comes of the row, under the names of the tables now
+    -- all successors of the row, under the names that the tables have now
     module _ (names : Naming) (known : AreNames (naming tables) names) (each : HasEachOnce names.syms) where
       graph_there : IsGraph names before.graph before.ends.items (IsOpen row)
       graph_there = sources names (earlier_names extends known) each
@@ -187,7 +187,7 @@ module _ (exploration : Exploration) (entry : ℕ) (explores : ExploresIntegers 
       (sourced_but code program entry budgets names rules findings.graph.rows findings.ends.items (λ number. ⊥) (Waits findings.graph.work)
       (λ number never. absurd never) (sources names are each).sourced)
 
-  -- what was found in the end comes from rows
+  -- what was found in the end has sources
   module _ (findings : Findings) (explored : Explored) (numbered : IsNumbered (naming findings.tables).bases)
       (once : HasEachOnce (naming findings.tables).syms) (rows : explored.rows.items ≡ findings.graph.rows)
       (ends : explored.ends.items ≡ findings.ends.items) (tables : explored.tables ≡ findings.tables) (done : IsDone exploration entry findings) where
@@ -206,7 +206,7 @@ module _ (exploration : Exploration) (entry : ℕ) (explores : ExploresIntegers 
     pub graph_at_last : IsExactGraph code program entry budgets last_names rules explored.rows.items explored.ends.items
     graph_at_last = exact_graph code program entry budgets last_names rules explored.rows.items explored.ends.items (λ number. ⊥) sourced_at_last
 
-    -- and so is what is said of its guesses
+    -- and so is what states note about guesses
     pub guesses_at_last : IsGuessedGraph code program entry budgets last_names explored.rows.items explored.ends.items
     guesses_at_last = record {
       asked = are_asked code program entry budgets last_names rules explored.rows.items explored.ends.items (λ number. ⊥) sourced_at_last;

@@ -4,7 +4,7 @@ use Rattle.std.specs.Prelude.{Option, Some, None}
 use Rattle.std.specs.Io.KnownBytes.{Consumes}
 use Rattle.cs_io.specs.Reported.{LosesFront}
 
--- bytes that lose their front, and then more of it, lose their front
+-- consuming bytes in two calls consumes them together
 pub LosesFront-from_both : (before between now : Option (List ℕ)) (front : List ℕ) → Consumes before between front → LosesFront between now
     → LosesFront before now
 LosesFront-from_both None between now front taken lost = (front, tt)

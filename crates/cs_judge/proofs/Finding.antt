@@ -13,7 +13,7 @@ use Rattle.cs_judge.specs.Partnering.{Meets, AreCandidatesBelow}
 use Rattle.cs_judge.proofs.Places.{end_or_before}
 
 module _ {A : Type 0} where
-  -- an item keeps its place when others are put to the end
+  -- an item keeps its index if others are added at the end
   still_there : (xs ys : List A) (n : ℕ) (x : A) → slice_get xs n ≡ Some x → slice_get (xs ++ ys) n ≡ Some x
   still_there [] ys n x h = absurd (let e : None ≡ Some x = h in cc)
   still_there (y ∷ xs) ys zero x h = h
@@ -23,13 +23,13 @@ module _ {A : Type 0} where
   last_there [] x = refl
   last_there (y ∷ xs) x = last_there xs x
 
-  -- an item of a list has its place
+  -- a list has an item at each index below its length
   pub some_item : (xs : List A) (k : ℕ) → k < length xs → (x : A) × (slice_get xs k ≡ Some x)
   some_item [] k h = absurd (omega arith)
   some_item (y ∷ ys) zero h = (y, refl)
   some_item (y ∷ ys) (suc k) h = some_item ys k (omega arith)
 
-  -- what holds of each item by its place, and of one more that is put to the end
+  -- a list of this length, for whose items a predicate of their indices holds
   pub record AreAt (P : ℕ → A → Type 0) (number : ℕ) (xs : List A) : Type 0 where
     pub count : length xs ≡ number
     pub each : (n : ℕ) (x : A) → slice_get xs n ≡ Some x → P n x

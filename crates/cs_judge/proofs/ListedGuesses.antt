@@ -21,13 +21,13 @@ rest_after guess guesses event are index one there =
     let h = are (suc index) one there in
     grind (arith, nat_tests)
 
--- by whether the first guess is the one
+-- depending on whether the first guess is at the event
 none_if : (guess : Guess) (rest : Option _) (e event : ℕ) (here : Bool) → (guess.event == e) ≡ here → nat_lt guess.event event ≡ false
     → (is_some rest && nat_lt e event) ≡ false → (is_some (if here then Some guess.number else rest) && nat_lt e event) ≡ false
 none_if guess rest e event true h later others = grind (arith, nat_tests)
 none_if guess rest e event false h later others = others
 
--- where no guess stands before an event
+-- if no guess is before the event, none is listed there
 none_before : (guesses : List Guess) (event e : ℕ) → AreBefore 0 event guesses → (listed guesses e && nat_lt e event) ≡ false
 none_before [] event e are = refl
 none_before (guess ∷ guesses) event e are =
@@ -42,7 +42,7 @@ some_if guess its rest other e event true h same before others =
 some_if guess its rest other e event false h same before others =
     ap (λ b. is_some (if b then Some its.number else other)) (ap (λ n. n == e) same ∙ h) ∙ others
 
--- so the other list has a guess where this one has, before the event
+-- so the other list has a guess exactly where this one has one before the event
 pub listed_alike : (place event : ℕ) (mine other : List Guess) → AreBefore place event mine → AreAtEvents place mine other
     → (e : ℕ) → listed other e ≡ (listed mine e && nat_lt e event)
 listed_alike zero event mine [] are same e = sym (none_before mine event e are)

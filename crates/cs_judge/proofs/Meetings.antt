@@ -9,7 +9,7 @@ use Rattle.cs_judge.specs.Certificates.{IsMet, IsSpotAt, ComesAlong}
 use Rattle.cs_judge.proofs.Places.{same_beginning}
 use Rattle.cs_judge.proofs.ListedGuesses.{listed_alike}
 
--- an item that was found has its place
+-- the index of an item that was found is below the length
 pub is_there : {A : Type 0} (xs : List A) (n : ℕ) (x : A) → slice_get xs n ≡ Some x → n < length xs
 is_there [] n x h = cc
 is_there (y ∷ ys) zero x h = omega arith

@@ -6,13 +6,13 @@ use Rattle.cs_judge.specs.declared.pool.Replay.{Replay}
 use Rattle.cs_compared.specs.Agreement.{AgreeTo}
 use Rattle.cs_judge.specs.Agreement.{AreShares}
 
--- an item of a list has a place
+-- the item at an index
 pub place_of : {A : Type 0} (xs : List A) (k : ℕ) (x : A) → k < length xs → slice_index_or xs k x ≡ x → slice_get xs k ≡ Some x
 place_of [] k x h e = absurd (omega arith)
 place_of (y ∷ ys) zero x h e = ap Some e
 place_of (y ∷ ys) (suc k) x h e = place_of ys k x (omega arith) e
 
--- an item that was put to the end, or one before it
+-- the item at the end, or one before it
 pub end_or_before : {A : Type 0} (xs : List A) (x y : A) (n : ℕ) → slice_get (xs ++ x ∷ []) n ≡ Some y
     → (slice_get xs n ≡ Some y) ⊎ ((n ≡ length xs) × (x ≡ y))
 end_or_before [] x y zero e = inr (refl, cc)
@@ -31,7 +31,7 @@ one_more_share shown pool shares more replay are there alike number other share 
           (alike index (subst (λ n. index < n) (sym h.1) before))
     ]
 
--- lists that agree begin alike
+-- lists that agree have the same first items
 pub same_beginning : (one other : List Event) (count : ℕ) → AgreeTo count one other → take count one ≡ take count other
 same_beginning one other zero agree = refl
 same_beginning [] [] (suc count) agree = refl

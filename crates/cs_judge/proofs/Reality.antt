@@ -25,7 +25,7 @@ use Rattle.cs_judge.proofs.Places.{place_of}
 use Rattle.cs_judge.specs.Certificates.{IsSpot, IsMet, IsLeftMet, IsRightMet, IsJudged, IsCertificate}
 
 module _ (program : TypedProgram) (entry : ℕ) (budgets : RunBudgets) (pool : List Replay) (kept : AreKept program entry budgets pool) where
-  -- the runs of the pool have real guesses so far
+  -- the runs of the pool have real guesses up to some event
   abbrev AreRealSo : (ProgramRun → Type 0) → Type 0
   AreRealSo Earlier = (number : ℕ) (replay : Replay) → slice_get pool number ≡ Some replay → Earlier (run_of replay.run)
 
@@ -89,7 +89,7 @@ module _ (program : TypedProgram) (entry : ℕ) (budgets : RunBudgets) (pool : L
     number_is : guess.event ≡ suc (length events)
     number_is = spot.number ∙ ap suc (sym count)
 
-    -- the run comes to the guessed operation without its later guesses
+    -- the run reaches the guessed operation without its later guesses
     comes_there : (number : ℕ) → slice_get pool number ≡ Some mine
         → Comes program entry budgets (before guess.event (run_of mine.run)) events (pending.Operates at operation)
     comes_there number there =
@@ -97,7 +97,7 @@ module _ (program : TypedProgram) (entry : ℕ) (budgets : RunBudgets) (pool : L
         (comes_before program entry budgets (run_of mine.run) events (pending.Operates at operation)
         (kept number mine there passed at operation spot.kept spot.enough))
 
-  -- a guess that passes the judge is real if the runs of the pool have real guesses below it
+  -- a guess that passes the judge is real if the runs of the pool have real guesses before it
   real_with : (Earlier : ProgramRun → Type 0) → AreRealSo Earlier → (number : ℕ) (mine : Replay) → slice_get pool number ≡ Some mine
       → (place : ℕ) (guess : Guess) (judged : IsJudged program.model pool mine place guess)
       → (others : Others ProgramRun) × AllRelated (IsRunAt pool) judged.partners.others others

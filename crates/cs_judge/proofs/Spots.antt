@@ -28,7 +28,7 @@ use Rattle.cs_judge.specs.Choosing.{IsGround, IsCandidate, GivesGround, NamesOth
 use Rattle.cs_judge.specs.Proving.{Bare, bare, IsGuessedAt, IsPartner, HasOther, ProvesGuess, HasProof}
 use Rattle.cs_judge.proofs.Meetings.{met}
 
--- no ground is one to guess the result of an operation that isn't guessed
+-- an operation that has a ground is one that may be guessed
 pub guessable : (model : DataModel) (operation : Operation) (pairs : Others Pair) → IsTrue (has_ground model operation pairs) → IsGuessable operation
 guessable model (Binary operator ty left right) pairs h = tt
 guessable model (Unary operator ty operand) pairs h = absurd (let g : IsTrue _ = h in cc)
@@ -47,7 +47,7 @@ module _ {A B : Type 0} (R S : A → B → Type 0) (f : (a : A) (b : B) → R a 
   all_related (One x) (Two y y') r = absurd r
   all_related (Two x x') (One y) r = absurd r
 
--- the first of two that are related to others, and the second
+-- the partners of the first of two, and of the second
 module _ {A B : Type 0} (R : A → B → Type 0) (x x' : A) where
   pub first_of : (ys : Others B) → AllRelated R (Two x x') ys → (y : B) × R x y
   first_of (One y) r = absurd r
@@ -57,7 +57,7 @@ module _ {A B : Type 0} (R : A → B → Type 0) (x x' : A) where
   second_of (One y) r = absurd r
   second_of (Two y y') r = (y', r.1)
 
--- a replay of the pool but for its inputs and its partners
+-- a replay of the pool without its inputs and its partners
 pub bare_at : (pool : List Replay) (number : ℕ) (replay : Replay) → slice_get pool number ≡ Some replay
     → slice_get (map bare pool) number ≡ Some (bare replay)
 bare_at pool number replay there = slice_get-map bare pool number ∙ ap (option_map bare) there
@@ -79,7 +79,7 @@ pub within_pool : (pool : List Replay) (number : ℕ) (it : Bare) → slice_get 
 within_pool pool number it there = let is = of_bare pool number it there in slice_get_within pool number is.replay is.there
 
 module _ (pool : List Replay) (mine : Replay) (spot : Spot) where
-  -- another replay comes to the operation of the notes too
+  -- another replay reaches the operation of the notes too
   abbrev pub Partner : ℕ → Pair → Type 0
   Partner = IsPartner (map bare pool) (bare mine) spot.place spot.passed spot.at spot.operation
 
@@ -148,7 +148,7 @@ module _ (pool : List Replay) (mine : Replay) (spot : Spot) where
       ];
     }
 
--- what proves a guess, at the operation of the notes
+-- what proves a guess of the operation in the notes
 pub record ProvesSpot (pool : List Bare) (mine : Bare) (place : ℕ) (model : DataModel) (partners : Partners) (guess : Guess) (passed : ℕ) (at : Place)
     (operation : Operation) : Type 0 where
   pub pairs : Others Pair
@@ -161,7 +161,7 @@ pub record ProvesSpot (pool : List Bare) (mine : Bare) (place : ℕ) (model : Da
   pub left : IsTrue (fits_left operation guess.number) ⊎ HasOther pool mine place passed at operation (λ pair. pair.0) partners.left
   pub right : IsTrue (fits_right operation guess.number) ⊎ HasOther pool mine place passed at operation (λ pair. pair.1) partners.right
 
--- a guess is guessed at one operation
+-- a guess is that of only one operation
 same_spot : (pool : List Bare) (mine : Replay) (place : ℕ) (spot : Spot) → IsSpotAt mine place spot → (guess : Guess) (passed : ℕ) (at : Place)
     (operation : Operation) → IsGuessedAt pool (bare mine) place guess passed at operation → (P : Guess → ℕ → Place → Operation → Type 0)
     → P guess passed at operation → P spot.guess spot.passed spot.at spot.operation
@@ -201,7 +201,7 @@ is_guessed pool mine place spot notes = record {
   kept = notes.comes.kept;
 }
 
--- what is chosen among all partners of the pool proves the guess, if some do
+-- the partners that are chosen among all of the pool prove the guess, if some do
 module _ (pool : List Replay) (mine : Replay) (spot : Spot) (candidates : List Candidate)
     (meet : (number : ℕ) (pair : Pair) → IsCandidate candidates number pair → Partner pool mine spot number pair)
     (all : IsGuessable spot.operation → (number : ℕ) (pair : Pair) → number < length pool → Partner pool mine spot number pair
@@ -209,7 +209,7 @@ module _ (pool : List Replay) (mine : Replay) (spot : Spot) (candidates : List C
   candidate : IsGuessable spot.operation → (number : ℕ) (pair : Pair) → Partner pool mine spot number pair → IsCandidate candidates number pair
   candidate able number pair it = all able number pair (within_pool pool number it.other it.there) it
 
-  -- another operand that some candidate has is named
+  -- if some candidate has another operand, one is named
   abbrev FindsOther : (Pair → ℤ) → Option ℕ → Type 0
   FindsOther operand named = (number : ℕ) (pair : Pair) → IsCandidate candidates number pair → operand pair ≢ operand (operands spot.operation)
       → NamesOther candidates spot.operation operand named

@@ -12,7 +12,7 @@ use Rattle.cs_word_lists.specs.Bytes.{bytes_of_word, bytes_of, words_in}
 use Rattle.cs_word_lists.proofs.Coding.{words_back}
 use Rattle.cs_keys.specs.Runs.{all_words}
 
--- the words after the last run are a run, and more words another one
+-- the words after the last run are a run, and further words another one
 pub shared_after : (runs : List (List ℕ)) (tail words : List ℕ)
     → all_words ((runs ++ tail ∷ []) ++ words ∷ []) [] ≡ all_words runs tail ++ words
 shared_after runs tail words =
@@ -32,7 +32,7 @@ pub all_bytes : (runs : List (List ℕ)) (tail : List ℕ) → flat_map bytes_of
 all_bytes runs tail =
     ap (λ first. first ++ bytes_of tail) (bytes_of_runs runs) ∙ sym (flat_map-append bytes_of_word (concat runs) tail)
 
--- words are the same where their bytes are
+-- words are equal if their bytes are
 pub same_bytes : (one other : List ℕ) → pointwise nat_eq (bytes_of one) (bytes_of other) ≡ pointwise nat_eq one other
 same_bytes one other =
     one_answer _ _ (bytes_decides (bytes_of one) (bytes_of other)) (
@@ -40,7 +40,7 @@ same_bytes one other =
       λ same. (bytes_decides one other).1 (sym (words_back one) ∙ ap words_in same ∙ words_back other),
     )
 
--- lists that begin alike are the same where the rests are
+-- lists with the same beginning are equal if their rests are
 alike_after : (front a b : List ℕ) → pointwise nat_eq (front ++ a) (front ++ b) ≡ pointwise nat_eq a b
 alike_after front a b =
     one_answer _ _ (bytes_decides (front ++ a) (front ++ b)) (
@@ -48,7 +48,7 @@ alike_after front a b =
       λ same. (bytes_decides a b).1 (append_cancel_left front a b same),
     )
 
--- the part of a run from a place to its end
+-- the part of a run from an index to its end
 pub from_place : (n : ℕ) (run : List ℕ) → take (length run - n) (drop n run) ≡ drop n run
 from_place n run = ap (λ count. take count (drop n run)) (sym (length-drop n run)) ∙ take-length (drop n run)
 

@@ -12,7 +12,7 @@ use Rattle.cs_store.specs.Listings.{origin_of, has_origin}
 use Rattle.cs_keys.specs.Live.{LiveSymbol, Line, FarLine, LiveTerm, Constant, Linear, Far, live_symbol, live_line, far_line, live_over, live_term}
 use Rattle.cs_keys.specs.Laws.{AreOneFunction}
 
--- a value as that at 0 and a multiple of the slope
+-- a value as the one at 0 plus a multiple of the slope
 as_sum : (slope at value x : ℤ) → affine slope at value x ≡ (value -ℤ slope *ℤ at) +ℤ slope *ℤ x
 as_sum slope at value x =
     let parts : x ≡ (x -ℤ at) +ℤ at = omega (arith, ints) in

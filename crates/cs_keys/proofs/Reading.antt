@@ -155,12 +155,12 @@ fill_read r q (fill.Wrote a b) (fill.Wrote c d) e =
     (call.0, λ i. fill.Wrote (call.1 i) (argument.1 i))
 fill_read r q x y e = let form = (word_read _ _ _ _ e).1 in absurd (omega arith)
 
--- both mention a symbol or neither does, and they are the same where its numbers are
+-- both mention a symbol or neither does, and they are equal if its numbers are
 record AreAlike {Item : Type 0} (numbers : Item → Option (Option (List Interval))) (x y : Item) : Type 0 where
   both : is_some (numbers x) ≡ is_some (numbers y)
   same : numbers x ≡ numbers y → x ≡ y
 
--- words that end with a part determine it but for the numbers of its symbol
+-- words that end with a part determine it except for the numbers of its symbol
 abbrev IsReadPlain : {Item : Type 0} → (List ℕ → Item → List ℕ) → (Item → Option (Option (List Interval))) → Type 0
 IsReadPlain {Item} with_item numbers = (r q : List ℕ) (x y : Item) → with_item r x ≡ with_item q y → (r ≡ q) × AreAlike numbers x y
 
@@ -219,7 +219,7 @@ abbrev others : {A : Type 0} → List A → List A
 others [] = []
 others (x ∷ xs) = xs
 
--- lists of numbers that begin with those of alike parts
+-- lists of numbers that begin with those of two alike parts
 numbers_split : (a b : Option (Option (List Interval))) (s t : List (Option (List Interval))) → is_some a ≡ is_some b
     → option_to_list a ++ s ≡ option_to_list b ++ t → (a ≡ b) × (s ≡ t)
 numbers_split None None s t both e = (refl, e)

@@ -29,7 +29,7 @@ numbers_after front set =
     word_next front (with_list with_interval [] set) _ 1
     (list_after with_interval interval_after front [] set ∙ ap (λ words. with_list with_interval words set) (append-nil front))
 
--- the words of a symbol's numbers, where it is declared
+-- the words of a symbol's numbers, if it is declared
 pub symbol_numbers : (front words : List ℕ) (found : Option (List Interval)) → Some words ≡ option_map set_words found
     → front ++ words ≡ with_set front found
 symbol_numbers front words None e = absurd (cc)

@@ -24,7 +24,7 @@ use Rattle.cs_progress.specs.Answering.{answers_left, HasNextValue, HasNoAnswer}
 use Rattle.cs_progress.proofs.Composing.{leads_answered, asks_first}
 use Rattle.cs_progress.proofs.Carrying.{handed}
 
--- an act leads on as the same act does
+-- an act leads where an equal act leads
 pub same_leads : (cells : Path → InputKind → Cell) (before after : List ℤ) (one same act : Act CodeState)
     → one ≡ same → Leads cells before after same act → Leads cells before after one act
 same_leads cells before after one same act is leads = subst (λ (begin : Act CodeState). Leads cells before after begin act) (sym is) leads
@@ -39,7 +39,7 @@ module _ (state : State) (at : Place) (question : Question) where
   AsksFirst act = (v : Valuation) → Fits v state.constraints
       → (onward : ℤ → Act CodeState) × (act v ≡ Asks at (operation_of v question) onward)
 
-  -- the question stands first where no answer is left
+  -- the question comes first if no answer remains
   pub question_waits : (bases : List Base) (used : ℕ) (first : Next) (act : Valuation → Act CodeState)
       → first ≡ next.Asks at question → HasNoAnswer state used → AsksFirst act → WaitsFor bases state used first act
   question_waits bases used first act is none asks cells v fits uses =
@@ -49,7 +49,7 @@ module _ (state : State) (at : Place) (question : Question) where
         ap (left_of cells (answers_left state used v)) same ∙ asks_first cells (answers_left state used v) at (operation_of v question) onward (none v),
       )
 
-  -- the question is the last of a part
+  -- a part that ends with the question
   pub asked : (bases : List Base) (before after : Progress) (answer : Result Lin Pause) (part : Valuation → (ℤ → Act CodeState) → Act CodeState)
       → ((v : Valuation) → Fits v state.constraints → (onward : ℤ → Act CodeState) → part v onward ≡ Asks at (operation_of v question) onward)
       → IfOk answer (HasNextValue state before.used after.used)
@@ -69,7 +69,7 @@ module _ (state : State) (at : Place) (question : Question) where
         question_waits bases before.used after.first (λ v. part v onward) (first waits) (none waits) (λ v fits. (onward, asks v fits onward));
   }
 
-  -- a part begins with the question, whose answer isn't used
+  -- a part begins with the question, and doesn't use its answer
   abbrev pub ShowsThen : {Given : Type 0} → (Valuation → (Given → Act CodeState) → Act CodeState) → (Valuation → Given) → Type 0
   ShowsThen {Given} part given = (v : Valuation) → Fits v state.constraints → (onward : Given → Act CodeState)
       → part v onward ≡ Asks at (operation_of v question) (λ number. onward (given v))

@@ -29,12 +29,12 @@ not_true : (b : Bool) → (b ≡ true → ⊥) → b ≡ false
 not_true true never = absurd (never refl)
 not_true false never = refl
 
--- an element that is there passes no test that none passes
+-- an element doesn't pass a test that no element of its list passes
 none_passes : {X : Type 0} (p : X → Bool) (xs : List X) (x : X) → list_any p xs ≡ false → Any (λ y. y ≡ x) xs → p x ≡ false
 none_passes p xs x none (k, y, within, at_k, same) =
     not_true (p x) (λ holds. true≢false (sym (list_any_at p xs k y within (ap p (at_k ∙ same) ∙ holds)) ∙ none))
 
--- a fact of the first element and of all others
+-- a fact about the first element and all others
 all_more : {X : Type 0} (P : X → Type 0) (x : X) (xs : List X) → P x → All P xs → All P (x ∷ xs)
 all_more P x xs one more zero d within = one
 all_more P x xs one more (suc k) d within = more k d (omega arith)
@@ -42,7 +42,7 @@ all_more P x xs one more (suc k) d within = more k d (omega arith)
 all_none : {X : Type 0} (P : X → Type 0) → All P []
 all_none P k d within = absurd (omega arith)
 
--- an answer is left where an event was answered later
+-- if an event was answered later, some answer remains
 pub some_left : (state : State) (used : ℕ) (v : Valuation) → IsAnsweredLater state used → answers_left state used v ≡ [] → ⊥
 some_left state used v later none =
     let long = length-drop used (map (value_of v) state.answers) in
@@ -66,7 +66,7 @@ module _ (cells : Path → InputKind → Cell) (subject : Subject) (at : Place) 
       let (k, kind, within, at_k, holds) = Any-from_list_any (λ kind. is_faulty_for kind subject v) kinds faulty in
       absurd (some (subst (UsesAll cells answers) (is.faulty kind holds act) uses))
 
-  -- an event was answered later, so what comes before it was no fault
+  -- an event was answered later, so there was no fault before it
   pub later_leads : (answers : List ℤ) (act : Act CodeState) → ((fault : Kind) → Any (λ one. one ≡ fault) kinds) → (answers ≡ [] → ⊥)
       → Leads cells answers answers (checked act) act
   later_leads answers act every some = by_truth (is_faulty kinds subject v) refl
@@ -83,7 +83,7 @@ module _ (cells : Path → InputKind → Cell) (subject : Subject) (at : Place) 
   unfolding left_of
   one_fault answers act kind faulty = ap (left_of cells answers) (is.faulty kind faulty act)
 
-  -- each faulty part is a fault of its kind
+  -- each faulty part stops with the fault of its kind
   pub faults_begin : (before : State) (asked : List Kind) (parts : List FaultyPart) → AreFaults before subject asked parts
       → (answers : List ℤ) (act : Act CodeState) → All (IsFaultOf answers act) parts
   faults_begin before [] parts are answers act = subst (All (IsFaultOf answers act)) (sym are) (all_none (IsFaultOf answers act))
@@ -96,12 +96,12 @@ module _ (cells : Path → InputKind → Cell) (subject : Subject) (at : Place) 
       one_fault answers act part.kind (ap (λ k. is_faulty_for k subject v) its_kind ∙ both.1))
       (faults_begin before kinds rest others answers act))
 
--- nothing is owed of a success where there is an error
+-- in case of an error nothing is claimed about success
 pub failed : {T E : Type 0} (answer : Result T E) (P : Type 0) → IsErr answer → OnOk answer P
 failed (Ok made) P is = absurd (true≢false (sym is))
 failed (Err why) P is = tt
 
--- where the checkers keep their kinds, each kind still has a checker
+-- if checkers keep their kinds, each kind still has a checker
 pub every_kept : {Checker : Type 0} (kind : Checker → Kind) (before after : List Checker) → KeepKinds kind before after
     → HasEveryKind kind before → HasEveryKind kind after
 every_kept kind before after keeps every fault = subst (Any (λ one. one ≡ fault)) (sym keeps) (every fault)

@@ -32,7 +32,7 @@ is_null (NumberCell n) = false
 is_null (PointerCell object offset) = false
 is_null UnsetCell = false
 
--- what an order test leaves: 0 where it holds, else -1
+-- an order test as a number that is faulty below 0: 0 if it holds, else -1
 abbrev pub rest_of : Bool → Lin2
 rest_of holds = record { first = constant (if holds then pos 0 else negsuc 0); second = constant (pos 0) }
 
@@ -62,7 +62,7 @@ module _ (at : Place) (v : Valuation) where
     good = λ never act. good (sym is ∙ never one) (never one) act;
   }
 
-  -- each subject has a single kind of faults
+  -- each subject has only one kind of faults
   only_null : (null : Bool) (other : Kind) → is_faulty_for other (Through null) v ≡ true → (other ≡ kind.Null) × (null ≡ true)
   only_null null kind.Null holds = (refl, holds)
   only_null null other holds = absurd (true≢false (sym holds))
@@ -113,7 +113,7 @@ module _ (at : Place) (v : Valuation) where
       of_kind (Through null) kind.Null null (access.not_null at cell) (only_null null)
       (λ there none act. if_there cell act (same ∙ there)) (λ is act. if_null cell act (same ∙ is)) refl
 
-  -- a pointer that isn't null is moved without a check, null by 0 alone
+  -- a pointer that isn't null is moved without a check; null may only be moved by 0
   pub moved_check : (amount : Lin) → IsCheckOf (Move false amount) at v (λ act. act)
   moved_check amount =
       of_kind (Move false amount) kind.Null false (λ act. act) (only_move false amount) (λ there none act. refl)
@@ -159,7 +159,7 @@ module _ (at : Place) (v : Valuation) where
       opposite : (n w : ℤ) → (int_le (pos 0) n && int_lt n w) ≡ not (int_lt n (pos 0) || int_le w n)
       opposite n w = grind (arith, ints)
 
-  -- a pointer that names no object
+  -- a cell that has to be a pointer, and points to no object
   pub unset_check : IsCheckOf (OfCell true) at v (λ act. Stops (Fault kind.Unset at))
   unset_check =
       of_kind (OfCell true) kind.Unset true (λ act. Stops (Fault kind.Unset at)) (only_unset true)

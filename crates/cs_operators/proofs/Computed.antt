@@ -29,7 +29,7 @@ use Rattle.cs_progress.proofs.Composing.{leads_on, waits_on}
 use Rattle.cs_progress.proofs.Carrying.{no_wait}
 
 module _ (code : Code) (names : Naming) (program : TypedProgram) (before : State) where
-  -- the state of the run before the operation, after which this is to be done
+  -- the state of the run before the operation, with this to do after it
   abbrev pub stands : Point → Valuation → CodeState
   stands todo v = to_do todo (meaning code names program before v)
 
@@ -38,11 +38,11 @@ module _ (code : Code) (names : Naming) (program : TypedProgram) (before : State
   AllLead earlier later one two = (cells : Path → InputKind → Cell) (v : Valuation) → Fits v before.constraints
       → Leads cells (answers_left before earlier v) (answers_left before later v) (one v) (two v)
 
-  -- one temporary stands in place of some, and goes on
+  -- one temporary replaces some, and the run continues
   abbrev pub leaves : ℕ → Temporary → Point → Valuation → Act CodeState
   leaves count left todo v = Goes (push (operand_of names.bases before.blocks v left) (pop_many count (stands todo v)))
 
-  -- a number or another cell stands in place of some operands, and goes on
+  -- a number or another cell replaces some operands, and the run continues
   abbrev pub number_left : ℕ → Point → Valuation → ℤ → Act CodeState
   number_left count todo v number = Goes (push_cell (NumberCell number) (pop_many count (stands todo v)))
 
@@ -53,7 +53,7 @@ module _ (code : Code) (names : Naming) (program : TypedProgram) (before : State
   truth_left count todo v holds = Goes (push_cell (truth_cell holds) (pop_many count (stands todo v)))
 
   module _ (after : State) (earlier later : Progress) {T : Type 0} (answer : Result T Pause) (act : CodeState → Act CodeState) where
-    -- what leads to the temporary that is left is done once it is left
+    -- an act that leads to the new temporary is done once it has replaced the others
     pub replaced : (count : ℕ) (left : Temporary) → OnOk answer (MeansReplaced count left before after)
         → IfErr answer (λ why. why ≡ pause.Memory)
         → ((todo : Point) → AllLead earlier.used later.used (λ v. act (stands todo v)) (leaves count left todo))
@@ -70,7 +70,7 @@ module _ (code : Code) (names : Naming) (program : TypedProgram) (before : State
         }
         by_case (Err why) means memory = record { done = tt; waits = λ waits. no_wait why memory waits }
 
-    -- what is handed on as an error is waited for
+    -- an error that is returned is waited for
     pub waited : (why : Pause) → IsErr answer × IsErrAnd answer (λ e. e ≡ why)
         → (why ≡ pause.Waits → (todo : Point) → WaitsFor names.bases before earlier.used later.first (λ v. act (stands todo v)))
         → Computes code names program before after earlier later answer act
@@ -82,7 +82,7 @@ module _ (code : Code) (names : Naming) (program : TypedProgram) (before : State
 
   module _ (todo : Point) {Given : Type 0} (act : CodeState → Act CodeState) (part : Valuation → (Given → Act CodeState) → Act CodeState)
       (rest : Valuation → Given → Act CodeState) (same : (v : Valuation) → Fits v before.constraints → act (stands todo v) ≡ part v (rest v)) where
-    -- an act that is a part, and what comes after that
+    -- an act that consists of a part and a rest
     pub part_leads : (earlier later : ℕ) (given : Valuation → Given) → Gives before earlier later part given
         → AllLead earlier later (λ v. act (stands todo v)) (λ v. rest v (given v))
     part_leads earlier later given gives cells v fits =

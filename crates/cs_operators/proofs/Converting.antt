@@ -28,12 +28,12 @@ use Rattle.cs_state.specs.Naming.{Naming}
 use Rattle.cs_operators.specs.Pointing.{is_number}
 use Rattle.cs_operators.proofs.Computed.{stands}
 
--- the newest of some operands, put back before the others
+-- the newest operand, popped and pushed again
 put_back : (stack : List Operand) (other : Operand) → 0 < length stack → unwrap_or (slice_get stack 0) other ∷ drop 1 stack ≡ stack
 put_back [] other some = absurd (omega (arith, some))
 put_back (newest ∷ stack) other some = refl
 
--- the newest operand is put back in its own place
+-- popping the newest operand and pushing it again changes nothing
 pub same_again : (code : Code) (names : Naming) (program : TypedProgram) (state : State) (v : Valuation) → 0 < length state.frame.temporaries
     → push (operand_at (meaning code names program state v) 0) (pop (meaning code names program state v)) ≡ meaning code names program state v
 same_again code names program state v some =
@@ -55,7 +55,7 @@ module _ (model : DataModel) (at : Place) (from : Shape) (ty : IntType) (bases :
   start_kept true base offset = pointer_kept base offset
   start_kept false base offset = refl
 
-  -- what is no number is kept by a conversion to an integer type
+  -- a conversion to an integer type keeps what isn't a number
   pub kept : (operand : Temporary) → is_number operand ≡ false
       → operators.convert model at from (integer ty) (operand_of bases blocks v operand) onward ≡ onward (operand_of bases blocks v operand)
   kept (temporary.Scalar (value.Number term)) other = absurd (true≢false other)
@@ -80,7 +80,7 @@ module _ (model : DataModel) (at : Place) (from : Shape) (ty : IntType) (bases :
   number_converted (temporary.Whole values) number holds is = absurd (true≢false (sym holds))
   number_converted temporary.Nothing number holds is = absurd (true≢false (sym holds))
 
--- the act of a conversion of a number of the state
+-- the conversion of a number in a state
 pub is_converted : (model other : DataModel) → model ≡ other → (at : Place) (from : Shape) (ty : IntType)
     (code : Code) (names : Naming) (program : TypedProgram) (state : State) (todo : Point) (v : Valuation) (operand : Temporary)
     → is_number operand ≡ true

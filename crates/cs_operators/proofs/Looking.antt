@@ -24,7 +24,7 @@ use Rattle.cs_operators.specs.Pointing.{cell_in, both_values, related}
 use Rattle.cs_operators.proofs.Asked.{same_leads, asked}
 
 module _ (state : State) (bases : List Base) (at : Place) (left right : Value) where
-  -- a part begins with both looks
+  -- a part begins with the inspection of both pointers
   pub both_looked : {Given : Type 0} (before between after : ℕ) (part rest : Valuation → (Given → Act CodeState) → Act CodeState)
       → ((v : Valuation) (onward : Given → Act CodeState)
       → part v onward ≡ looked bases state at left v (looked bases state at right v (rest v onward)))
@@ -37,7 +37,7 @@ module _ (state : State) (bases : List Base) (at : Place) (left right : Value) w
       (leads_on cells (answers_left state before v) (answers_left state between v) (answers_left state after v)
       (looked bases state at left v left_over) left_over (rest v onward) (first cells v fits left_over) (second cells v fits (rest v onward)))
 
-  -- then they have to point into one object, and a question about their offsets is the last
+  -- then they have to point into one object, and a question about their offsets comes last
   module _ (made_of : ℤ → ℤ → Operation) (part : Valuation → (ℤ → Act CodeState) → Act CodeState) where
     abbrev pub rest : Valuation → (ℤ → Act CodeState) → Act CodeState
     rest v onward =
@@ -48,7 +48,7 @@ module _ (state : State) (bases : List Base) (at : Place) (left right : Value) w
         → part v onward ≡ looked bases state at left v (looked bases state at right v (rest v onward)))
         (before between seen after : Progress) (first : GetsThrough state before.used between.used (looked bases state at left))
         (second : GetsThrough state between.used seen.used (looked bases state at right)) where
-      -- a fault of two pointers that don't is waited for
+      -- if they don't, the fault is waited for
       pub relation_waits : (answer : Result Lin Pause) (why : Pause) → IsErr answer × IsErrAnd answer (λ e. e ≡ why)
           → CarriesOut {T = Lin × Lin} bases state seen after (Err why) (λ v. related at (cell_in bases state left v) (cell_in bases state right v))
           both_values

@@ -14,7 +14,7 @@ use Rattle.cs_operators.specs.Pointing.{moved_within}
 pub back : (n : ℤ) → n *ℤ negsuc 0 ≡ neg_ℤ n
 back n = grind (arith, ints)
 
--- what is left up to a bound
+-- the distance of a number from a bound
 pub up_to : (n bound : ℤ) → (n *ℤ negsuc 0) +ℤ bound ≡ bound -ℤ n
 up_to n bound = grind (arith, ints)
 

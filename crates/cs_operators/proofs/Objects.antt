@@ -15,7 +15,7 @@ pub one_region : (found : Option Base) (x y : ℤ) → found ≢ None → in_one
 one_region None x y there = absurd (there refl)
 one_region (Some base) x y there = ap (λ (same : Bool). cond {A = Option (ℤ × ℤ)} same (Some (x, y)) None) (same_itself base)
 
--- pointers into two
+-- pointers into two base regions
 pub two_regions : (bases : List Base) (m n : ℕ) (x y : ℤ) → IsNumbered bases → (m ≡ n → ⊥)
     → in_one_object (pointer_to (slice_get bases m) x) (pointer_to (slice_get bases n) y) ≡ None
 two_regions bases m n x y once differ = by (slice_get bases m) (slice_get bases n) refl refl

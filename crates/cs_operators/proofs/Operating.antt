@@ -39,7 +39,7 @@ module _ (model : DataModel) (at : Place) (operator : BinOp) (ty : IntType) wher
           subst (λ (op : BinOp). IsCheckOf (Shift right (8 * bytes_of model ty)) at v (operators.checked model at op ty (value_of v right)))
           (sym is) (shift_check at v model ty right)
 
-  -- any other operator checks nothing
+  -- all other operators have no check
   pub unchecked : (operator ≡ Div → ⊥) → (operator ≡ Rem → ⊥) → (operator ≡ Shl → ⊥) → (operator ≡ Shr → ⊥)
       → (right : ℤ) (act : Act CodeState) → operators.checked model at operator ty right act ≡ act
   unchecked not_div not_rem not_shl not_shr right act = by operator refl

@@ -36,7 +36,7 @@ use Rattle.cs_operators.specs.Pointing.{both_values, equality, related}
 use Rattle.cs_operators.proofs.Tests.{truth_test}
 use Rattle.cs_operators.proofs.Checks.{is_there, pair_check}
 
--- whether null was seen, and whether a cell is null
+-- whether the inspection saw null, and whether a cell is null
 abbrev pub is_null : Seen → Bool
 is_null Null = true
 is_null (At base offset) = false
@@ -91,13 +91,13 @@ module _ (bases : List Base) (v : Valuation) (left right : Seen) (one other : Ce
   cells_null : (is_null_cell one && is_null_cell other) ≡ (is_null left && is_null right)
   cells_null = λ i. null_seen bases v left one left_named left_is i && null_seen bases v right other right_named right_is i
 
-  -- there are offsets only within one object where null wasn't seen twice
+  -- unless both are null, there are offsets only within one object
   pub related_apart : (is_null left && is_null right) ≡ false → operators.related one other ≡ operators.in_one_object one other
   related_apart apart =
       related_cells one other
       ∙ ap (λ (both : Bool). cond {A = Option (ℤ × ℤ)} both (Some (pos 0, pos 0)) (operators.in_one_object one other)) (cells_null ∙ apart)
 
--- what shows where two pointers don't point into one object
+-- the result if two pointers don't point into one object
 pub equality_apart : (at : Place) (operator : CmpOp) (v : Valuation) (one other : Cell) (holds : Bool) (onward : ℤ → Act CodeState)
     → operators.in_one_object one other ≡ None → operators.equality_of operator (operators.both_null one other) ≡ holds
     → equality at operator one other onward
@@ -109,7 +109,7 @@ equality_apart at operator v one other holds onward none is =
 
 module _ (at : Place) (state : State) (one other : Valuation → Cell) (found : Option (Lin × Lin))
     (is : (v : Valuation) → Fits v state.constraints → operators.related (one v) (other v) ≡ option_map (λ found. both_values found v) found) where
-  -- the check finds whether there are offsets
+  -- the check determines whether there are offsets
   pub relation_check : (same : Bool) → same ≡ is_some found
       → ChecksFor state (Pair same) at (λ v. operators.one_object at (operators.related (one v) (other v)))
   relation_check same some v fits =
@@ -119,7 +119,7 @@ module _ (at : Place) (state : State) (one other : Valuation → Cell) (found : 
       by None = refl
       by (Some offsets) = refl
 
-  -- the offsets that were found lead on
+  -- the act continues with the offsets that were found
   pub offsets_given : (bases : List Base) (before after : Progress)
       → GetsThrough state before.used after.used (λ v. operators.one_object at (operators.related (one v) (other v)))
       → CarriesOut bases state before after (ok_or found pause.Memory) (λ v. related at (one v) (other v)) both_values

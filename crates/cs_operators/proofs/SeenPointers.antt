@@ -37,13 +37,13 @@ no_pointer NullCell none = absurd none
 no_pointer (PointerCell object offset) none = absurd none
 
 module _ (bases : List Base) (v : Valuation) where
-  -- a cell is null exactly where null is seen
+  -- a cell is null exactly if null was seen
   pub null_is_seen : (what : Seen) (cell : Cell) → IsSeenNamed bases what → IsSeen bases v what cell → is_null cell ≡ is_seen_null what
   null_is_seen seen.Null cell named is = ap is_null is
   null_is_seen (seen.At base offset) cell named is = ap is_null is ∙ named_there (slice_get bases base) (value_of v offset) named
   null_is_seen seen.Other cell named is = no_pointer cell is
 
--- what is no pointer names no object
+-- what isn't a pointer points to no object
 pub names_nothing : (cell : Cell) (at : Place) (onward : Object → ℤ → Act CodeState) → IsNoPointer cell
     → access.named at cell onward ≡ Stops (Fault kind.Unset at)
 names_nothing (NumberCell n) at onward none = refl
@@ -51,14 +51,14 @@ names_nothing UnsetCell at onward none = refl
 names_nothing NullCell at onward none = absurd none
 names_nothing (PointerCell object offset) at onward none = absurd none
 
--- a member of what is no pointer is unset
+-- a member of what isn't a pointer is unset
 pub no_member : (cell : Cell) (bytes : ℕ) → IsNoPointer cell → operators.pointed cell bytes ≡ UnsetCell
 no_member (NumberCell n) bytes none = refl
 no_member UnsetCell bytes none = refl
 no_member NullCell bytes none = absurd none
 no_member (PointerCell object offset) bytes none = absurd none
 
--- the member that a pointer into a named base region points to
+-- the member of an object, from a pointer into a named base region
 pub member_at : (base : Option Base) (offset moved : ℤ) (bytes : ℕ) → moved ≡ offset +ℤ pos bytes
     → operators.pointed (pointer_to base offset) bytes ≡ pointer_to base moved
 member_at None offset moved bytes is = refl

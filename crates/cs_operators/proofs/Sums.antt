@@ -13,7 +13,7 @@ use Rattle.cs_progress.specs.Seeing.{IsNoPointer}
 use Rattle.cs_operators.specs.Pointing.{moved_within}
 
 module _ (model : DataModel) (at : Place) (amount : ℤ) (size : ℕ) (onward : Cell → Act CodeState) where
-  -- what comes after the look
+  -- the act after the inspection
   abbrev pub after_look : Cell → Act CodeState
   after_look NullCell = operators.unmoved at amount (onward NullCell)
   after_look (PointerCell object offset) = moved_within model at offset amount size (λ moved. onward (PointerCell object moved))

@@ -38,12 +38,12 @@ label_shown Truth number = refl
 label_shown Not number = refl
 label_shown Alloc number = refl
 
--- the number of a truth isn't 0 where it holds
+-- the number of a truth isn't 0 exactly if the truth holds
 truth_back : (holds : Bool) → is_true (truth_number holds) ≡ holds
 truth_back true = refl
 truth_back false = refl
 
--- whether a pointer that was looked at isn't null
+-- whether an inspected pointer isn't null
 abbrev pub is_at : Seen → Bool
 is_at Null = false
 is_at (At base offset) = true
@@ -85,7 +85,7 @@ module _ (at : Place) (tested : Tested) where
       test at tested (NumberCell n) onward ≡ Asks at (operation.Show (label_of tested (holds_for tested number))) (λ answer. onward holds))
       same (λ i. shows_then at (label_shown tested number i) (onward (truth i)))
 
-  -- a truth shows as its number does
+  -- a truth is shown as its number is
   pub truth_test : (v : Valuation) (holds : Bool) (act : Act CodeState)
       → shows_then at (shows_of tested holds) act
       ≡ Asks at (operation.Show (label_of tested (holds_for tested (value_of v (constant (truth_number holds)))))) (λ answer. act)
@@ -93,7 +93,7 @@ module _ (at : Place) (tested : Tested) where
       ap (λ what. shows_then at what act)
       (ap (shows_of tested) (sym (truth_back holds)) ∙ label_shown tested (truth_number holds))
 
-  -- a pointer is tested: whether it is null shows first
+  -- a pointer is tested: whether it is null is shown first
   pub looked_test : (cell : Cell) (onward : Bool → Act CodeState) → IsNoNumber cell
       → test at tested cell onward ≡ look at cell (shows_then at (shows_of tested (is_set cell)) (onward (is_set cell)))
   looked_test (NumberCell n) onward some = absurd some
@@ -115,7 +115,7 @@ module _ (at : Place) (tested : Tested) where
   set_seen bases v Other UnsetCell named seen some = refl
 
   module _ (state : State) (bases : List Base) (given : Value) (other : (term : Lin) → given ≡ value.Number term → ⊥) where
-    -- the look is waited for
+    -- the inspection is waited for
     pub look_waits : (used : ℕ) (first : Next)
         → ((act : Act CodeState) → WaitsFor bases state used first (λ v. looked bases state at given v act))
         → (onward : Bool → Act CodeState) → WaitsFor bases state used first (λ v. test at tested (cell_in bases state given v) onward)
@@ -124,7 +124,7 @@ module _ (at : Place) (tested : Tested) where
         subst (StandsFirst bases state used first cells v) (sym (looked_test cell onward (no_number bases state.blocks v given other)))
         (waits (shows_then at (shows_of tested (is_set cell)) (onward (is_set cell))) cells v fits)
 
-    -- what is left after the look
+    -- what remains after the inspection
     pub look_leads : (seen : Seen) (holds : Bool) (before after : ℕ) → IsSeenNamed bases seen → IsSeenIn state given seen → is_at seen ≡ holds
         → GetsThrough state before after (looked bases state at given)
         → LeadsTo state before after (λ v. test at tested (cell_in bases state given v)) (λ v onward. shows_then at (shows_of tested holds) (onward holds))

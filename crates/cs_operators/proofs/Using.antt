@@ -51,7 +51,7 @@ set_else (value.At base offset) never = refl
 set_else (value.Start base offset) never = refl
 set_else value.Unset never = absurd (never refl)
 
--- a scalar was never set exactly where its value says so
+-- a scalar was never set exactly if its value is unset
 pub never_set : (bases : List Base) (blocks : Blocks) (v : Valuation) (given : Value) → IsNamed bases given
     → is_never_set (cell_of bases blocks v given) ≡ is_unset given
 never_set bases blocks v (value.Number term) named = refl
@@ -61,14 +61,14 @@ never_set bases blocks v (value.Start base offset) named =
     start_set (is_there v (block_of blocks base)) (slice_get bases base) (pos offset) named
 never_set bases blocks v value.Unset named = refl
 
--- an operand that is no scalar isn't checked
+-- an operand that isn't a scalar isn't checked
 pub other_use : (bases : List Base) (blocks : Blocks) (v : Valuation) (at : Place) (operand : Temporary) (m : CodeState)
     → ((given : Value) → operand ≡ temporary.Scalar given → ⊥) → use_result at (operand_of bases blocks v operand) m ≡ Goes m
 other_use bases blocks v at (temporary.Scalar given) m never = absurd (never given refl)
 other_use bases blocks v at (temporary.Whole values) m never = refl
 other_use bases blocks v at temporary.Nothing m never = refl
 
--- an operation that checks alone leaves its state as it is
+-- an operation that only checks doesn't change the state
 pub checks_alone : (code : Code) (names : Naming) (program : TypedProgram) (state : State) {T : Type 0} (earlier later : Progress)
     (answer : Result T Pause) (act : CodeState → Act CodeState) (part : Valuation → Act CodeState → Act CodeState)
     → ((todo : Point) (v : Valuation) → Fits v state.constraints
@@ -90,7 +90,7 @@ checks_alone code names program state {T} earlier later answer act part same pas
           waits_on cells _ _ _ (part v goes) names.bases _ v _ (leads_same cells _ _ _ (same todo v fits)) (passes.waits waits goes cells v fits);
     }
 
--- so does one that does nothing
+-- and neither does one that does nothing
 pub checks_nothing : (code : Code) (names : Naming) (program : TypedProgram) (state : State) (progress : Progress) (act : CodeState → Act CodeState)
     → ((todo : Point) (v : Valuation) → act (stands code names program state todo v) ≡ Goes (stands code names program state todo v))
     → Computes {T = Unit {0}} code names program state state progress progress (Ok tt) act

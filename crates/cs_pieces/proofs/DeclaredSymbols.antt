@@ -23,7 +23,7 @@ use Rattle.cs_cfg.specs.IntegerCode.{count_of_locals}
 use Rattle.cs_progress.specs.Locals.{IsOver, PointsToLocal, PointToLocals, HasLocalsAlone, AreIn}
 use Rattle.cs_successors.specs.Coming.{is_declared}
 
--- no set has all numbers: none above these
+-- no set has all numbers, as none is above this bound
 at_most_abs : (number : ℤ) → number ≤ℤ pos (unsigned_abs number)
 at_most_abs (pos n) = omega (arith, ints)
 at_most_abs (negsuc n) = omega (arith, ints)
@@ -49,7 +49,7 @@ bounded (one ∷ set) =
           ap (λ (b : Bool). b || contains set x) (above one rest.0 x high) ∙ rest.1 x (omega (arith, ints)),
     )
 
--- what is declared there or not
+-- a symbol that can't be undeclared is declared
 declared_or_none : (found : Option (List Interval)) → (is_some found ≡ false → ⊥) → is_some found ≡ true
 declared_or_none None some = absurd (some refl)
 declared_or_none (Some set) some = refl
@@ -61,7 +61,7 @@ module _ (before after : Sets) (some : (v : Valuation) × Fits v after) (fits : 
     | inr differ ↦ ap (contains set) (with_number-other symbol number some.0 other differ) ∙ some.1 other set there
   ]
 
-  -- a symbol that was declared is declared yet
+  -- a symbol that was declared remains declared
   pub stays_declared : (symbol : ℕ) → is_declared before symbol ≡ true → is_declared after symbol ≡ true
   stays_declared symbol declared = by (set_of before symbol) refl (set_of after symbol) refl
     where
@@ -77,7 +77,7 @@ module _ (before after : Sets) (some : (v : Valuation) × Fits v after) (fits : 
           let same = with_number-same symbol number some.0 symbol refl in
           absurd (true≢false (sym inside ∙ ap (contains set) same ∙ outside))
 
--- what is declared is known to be so
+-- the symbol of a declared term is declared
 pub over_declared : (sets : Sets) (term : Lin) → IsDeclared sets term.sym → IsOver (is_declared sets) term
 over_declared sets term declared symbol is = by (set_of sets symbol.0) refl
   where
@@ -103,7 +103,7 @@ module _ (known other : ℕ → Bool) (more : (symbol : ℕ) → known symbol �
   all_more bases frame count (temporary.Whole given) points = absurd points
   all_more bases frame count temporary.Nothing points = tt
 
-  -- a state of locals alone is one where more symbols are known, with one more answer, and with other constraints, guesses and counters
+  -- a state whose pointers only point to locals remains one if more symbols are known, answers are added, and constraints, guesses and counters change
   pub locals_more : (program : TypedProgram) (bases : List Base) (before after : State) (answers : List Lin) → HasLocalsAlone program bases known before
       → after ≡ record before {
         constraints = after.constraints;

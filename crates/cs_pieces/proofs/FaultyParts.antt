@@ -52,7 +52,7 @@ module _ (code : Code) (program : TypedProgram) (budgets : RunBudgets) (names : 
     part_fits : (v : Valuation) → Fits v part.constraints → Fits v state.constraints
     part_fits v fits = ((is_part.exactly v).0 fits).0
 
-    -- a part of a state does the same next
+    -- the next act of a part of a state is the state's
     part_left : (cells : Path → InputKind → Cell) (v : Valuation)
         → next_left code names program budgets cells part v ≡ next_left code names program budgets cells state v
     part_left cells v = ap (λ (s : State). next_left code names program budgets cells s v) is_part.rest
@@ -65,7 +65,7 @@ module _ (code : Code) (program : TypedProgram) (budgets : RunBudgets) (names : 
       passed = at.passed ∙ sym (ap (λ (s : State). s.counters.events) is_part.rest);
     }
 
-    -- which mentions no more
+    -- and mentions no other symbols
     part_mentions : MentionsNoOthers code program budgets names state part
     part_mentions known mentioned = subst (HasLocalsAlone program names.bases known) (sym is_part.rest) (record {
       callers = mentioned.callers;
@@ -77,7 +77,7 @@ module _ (code : Code) (program : TypedProgram) (budgets : RunBudgets) (names : 
       read = mentioned.read;
     })
 
-    -- and is a state of integers alone
+    -- and is a state of integers only
     part_integer : IsIntegerState code program budgets names part
     part_integer = record {
       model = ap (λ (s : State). s.model) is_part.rest ∙ is.model;
@@ -112,7 +112,7 @@ module _ (code : Code) (program : TypedProgram) (budgets : RunBudgets) (names : 
         }
 
   module _ (at : Place) where
-    -- under each valuation that fits a faulty part, what is left to do is the fault
+    -- under each valuation that fits a faulty part, the operation in progress stops with the fault
     abbrev IsFault : FaultyPart → Type 0
     IsFault part = (cells : Path → InputKind → Cell) (v : Valuation) → Fits v state.constraints → Fits v part.state.constraints
         → next_left code names program budgets cells state v ≡ Stops (Fault part.kind at)
@@ -182,7 +182,7 @@ module _ (code : Code) (program : TypedProgram) (budgets : RunBudgets) (names : 
               All-cons (IsEndOf code program budgets names state) end ends
               (part_is_end (is_faulty_for kind subject) part end is_part (All-head IsFault part rest each) match.0) (more ends match.1)
 
-      -- and one of them is there where the operation is faulty
+      -- and if the operation is faulty, one of them has the fault
       parts_cover : (kinds : List Kind) (parts : List FaultyPart) (ends : List StateEnd) → AreFaults state subject kinds parts
           → All IsFault parts → AreFaultyEnds at parts ends
           → (setting : Setting) (v : Valuation) (left : Act CodeState) (log : Log) → IsAt code program budgets names state setting v left log
@@ -237,7 +237,7 @@ module _ (code : Code) (program : TypedProgram) (budgets : RunBudgets) (names : 
           → is_faulty parts.kinds parts.subject v ≡ true → ComesToEnd code program budgets names ends setting v left log
       cover = parts_cover parts.subject parts.kinds checked.faults.items ends parts.faults faults match
 
-      -- the rest goes on
+      -- the rest continues
       pub rest_reached : (goes : Bool) (after : State) → GoesOn checked.rest goes state after → goes ≡ true
           → IsReachedFrom code program budgets names state after ends
       rest_reached goes after on is_true = by checked.rest parts.rest on
@@ -277,7 +277,7 @@ module _ (code : Code) (program : TypedProgram) (budgets : RunBudgets) (names : 
               })
           by Nothing all on = let wrong : true ≡ false = sym is_true ∙ on.0 in cc
 
-      -- or nothing is left
+      -- or there is no rest
       pub nothing_left : (rules : List Rule) (goes : Bool) (after : State) → GoesOn checked.rest goes state after → goes ≡ false
           → Comes code program budgets names rules state [] ends
       nothing_left rules goes after on is_false =

@@ -17,25 +17,25 @@ use Rattle.cs_state.specs.Valuations.{Guessed as Guesses}
 use Rattle.cs_pieces.specs.Pieces.{asked_for, AreNotedAfter}
 use Rattle.cs_successors.specs.Coming.{AreGuessesAfter}
 
--- what is noted where this was guessed
+-- what is noted about a guess is in the table at its event
 pub noted_after : (event : ℕ) (guess : Sym) (before : Guesses) {guessed : Option Guessed} {what : Guessed} {after : Guesses} → guessed ≡ Some what
     → after ≡ finite.insert before (event, 0) (asked_for event guess what) → AreNotedAfter event guess guessed before after
 noted_after event guess before {after = after} is same =
     subst (λ (given : Option Guessed). AreNotedAfter event guess given before after) (sym is) same
 
--- what was noted is a guess of this symbol at the event
+-- what is noted is a guess of this symbol at the event
 pub guesses_after : (event : ℕ) (guess : Sym) (guessed : Option Guessed) (before after : Guesses) → AreNotedAfter event guess guessed before after
     → AreGuessesAfter event (option_map (λ what. guess) guessed) before after
 guesses_after event guess None before after same = same
 guesses_after event guess (Some what) before after same = (asked_for event guess what, refl, refl, same)
 
--- and found there
+-- and is found there
 pub noted_there : (event : ℕ) (guess : Sym) (what : Guessed) (before after : Guesses) → AreNotedAfter event guess (Some what) before after
     → finite.get after (event, 0) ≡ Some (asked_for event guess what)
 noted_there event guess what before after same =
     ap (λ (guesses : Guesses). finite.get guesses (event, 0)) same ∙ get_here before event (asked_for event guess what)
 
--- what holds of all values and of a new one holds of all values then
+-- what holds for all values and for a new one holds for all values after its insertion
 values_put : {X : Type 0} (P : X → Type 0) (key : ℕ × ℕ) (new : X) (entries : EntryList X) → P new → All P (map (λ e. e.1) entries)
     → All P (map (λ e. e.1) (put key_cmp key new entries))
 values_put P key new [] it all = All-cons P new [] it (All-nil P)
@@ -47,7 +47,7 @@ values_put P key new (entry ∷ entries) it all = by (key_cmp key entry.0) (valu
     by Equal rest = All-cons P new (map (λ e. e.1) entries) it (All-tail P entry.1 (map (λ e. e.1) entries) all)
     by Greater rest = All-cons P entry.1 (map (λ e. e.1) (put key_cmp key new entries)) (All-head P entry.1 (map (λ e. e.1) entries) all) rest
 
--- with one more guess, at the next event or none
+-- guesses stay within the events passed, with another guess at the next event or without one
 pub asked_before : (events : ℕ) (given : Option Sym) (before after : Guesses)
     → ((asked : Asked) → Contains (finite.values before) asked → asked.event ≤ events) → AreGuessesAfter (events + 1) given before after
     → (asked : Asked) → Contains (finite.values after) asked → asked.event ≤ events + 1

@@ -52,7 +52,7 @@ use Rattle.cs_cfg.specs.Spots.{rest_from, point_in, point_of}
 use Rattle.cs_successors.specs.Coming.{IsCountOfBits, IsCheckedRight, IsAskedByIntegers}
 use Rattle.cs_cfg.specs.IntegerCode.{IsOfInteger, IsIntegerWork, IsIntegerOperation, IsIntegerPoint, HasIntegerCode, count_of_locals}
 
--- an operation isn't what an allocation shows
+-- an operation that isn't the event of an allocation
 abbrev pub IsNoAllocation : Operation → Type 0
 IsNoAllocation (operation.Show (label.Alloc gives)) = ⊥
 IsNoAllocation other = Unit {0}
@@ -79,7 +79,7 @@ few_bytes model ULong = few_word_bytes model
 few_bytes model LLong = omega arith
 few_bytes model ULLong = omega arith
 
--- a count that passes the test of a shift
+-- a count that passes the check of a shift
 count_of_bits : (bytes : ℕ) (count : ℤ) → bytes ≤ 8 → int_le (pos 0) count ≡ true → int_lt count (pos (8 * bytes)) ≡ true → IsCountOfBits count
 count_of_bits bytes count few from_zero below =
     let first : pos 0 ≤ℤ count = grind (arith, ints) in
@@ -87,7 +87,7 @@ count_of_bits bytes count few from_zero below =
     (first, omega (arith, ints, second, few))
 
 module _ {S : Type 0} where
-  -- an act allocates nothing, divides by no 0, shifts by fewer than 64 bits, and shows no offset
+  -- an act allocates nothing, doesn't divide by 0, shifts by fewer than 64 bits, and shows no offset
   pub data ShowsNumbers : Act S → Type 0 where
     goes : {next : S} → ShowsNumbers (Goes next)
     stops : {outcome : Outcome} → ShowsNumbers (Stops outcome)
@@ -97,7 +97,7 @@ module _ {S : Type 0} where
         → ShowsNumbers (Asks at operation onward)
     touches : {touch : Touch} {act : Act S} → ShowsNumbers act → ShowsNumbers (Touches touch act)
 
-  -- and so does what is left of it after answers
+  -- and so does what remains of it after answers
   pub left_shows : (cells : Path → InputKind → Cell) (answers : List ℤ) {act : Act S} → ShowsNumbers act → ShowsNumbers (left_of cells answers act)
   unfolding left_of
   left_shows cells answers goes = goes
@@ -311,7 +311,7 @@ module _ (code : Code) (program : TypedProgram) (budgets : RunBudgets) where
   end_shows (Return temporary) m = leaves m.callers _ m
   end_shows Finish m = leaves m.callers _ m
 
-  -- a step at a point whose first operation works with integers alone
+  -- a step at a point whose first operation works only with integers
   pub step_shows : (count : ℕ) (operations : List Step) (end : BlockEnd) (m : CodeState)
       → ((one : Step) (rest : List Step) → operations ≡ one ∷ rest → IsIntegerOperation count one)
       → ShowsNumbers (step_at code program budgets operations end m)
@@ -334,7 +334,7 @@ module _ (code : Code) (program : TypedProgram) (budgets : RunBudgets) (spot : S
   plain_rest (suc number) [] one rest all is = cc
   plain_rest (suc number) (first ∷ operations) one rest all is = plain_rest number operations one rest (All-tail IsPlain first operations all) is
 
-  -- what stands first at a spot of integer code
+  -- the first operation at a spot of integer code
   plain_at : HasIntegerCode code program spot.function → (one : Step) (rest : List Step) → (point_of code spot).operations ≡ one ∷ rest → IsPlain one
   plain_at has one rest is = in_flow (flow_of code spot.function) refl is
     where
@@ -360,7 +360,7 @@ module _ (code : Code) (program : TypedProgram) (budgets : RunBudgets) (spot : S
       in_flow None found is = cc
       in_flow (Some flow) found is = in_block flow.blocks (has flow found) (slice_get flow.blocks spot.block) refl is
 
-  -- the step of integer code from a state whose frame stands at a spot
+  -- the step of integer code from a state whose frame is at a spot
   pub code_shows : (m : CodeState) → m.frame.todo ≡ point_of code spot → HasIntegerCode code program spot.function
       → ShowsNumbers (code_step code program budgets m)
   code_shows m stands has =

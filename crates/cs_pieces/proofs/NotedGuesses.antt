@@ -12,7 +12,7 @@ use Rattle.cs_eval.specs.Questions.{operation_of}
 use Rattle.cs_eval.specs.Splits.{Asking, IsOfGuess, IsPieceWith, IsPieceOf, Each}
 
 module _ (model : DataModel) (sets : Sets) where
-  -- what is noted of a guess: of a question that asks the same
+  -- what is noted about a guess: a question that asks the same
   pub record IsNotedOf (asking : Asking) (what : Guessed) : Type 0 where
     pub given : Question
     pub noted : IsNoted model sets given what.asks what.left what.right what.ends what.fact
@@ -38,7 +38,7 @@ module _ (model : DataModel) (sets : Sets) where
     question_noted given pieces notes.1,
   )
 
-  -- where nothing may be guessed, no piece has a guess
+  -- if nothing may be guessed, no piece has a guess
   pub none_noted : (guess : ℕ) (asking : Asking) → ((v : Valuation) (number : ℤ) → asking.IsGuess v number → ⊥) → (pieces : List Piece)
       → Each (IsPieceOf model sets guess asking) pieces → Each (NotesAsked asking) pieces
   none_noted guess asking never [] each = tt

@@ -13,7 +13,7 @@ use Rattle.cs_cfg.specs.Working.{CodeState}
 use Rattle.cs_progress.specs.Acting.{UsesAll}
 
 module _ (cells : Path → InputKind → Cell) where
-  -- where there is no answer, all are used
+  -- without answers all are used
   pub uses_none : (act : Act CodeState) → UsesAll cells [] act
   unfolding UsesAll
   uses_none (Goes next) = refl
@@ -24,7 +24,7 @@ module _ (cells : Path → InputKind → Cell) where
   uses_none (Allocates at path onward) = tt
   uses_none (Reaches at object offset act) = tt
 
-  -- answers are used one after another
+  -- answers are used one after the other
   uses_after : (answers more : List ℤ) (act : Act CodeState) → UsesAll cells answers act → UsesAll cells more (left_of cells answers act)
       → UsesAll cells (answers ++ more) act
   unfolding UsesAll left_of
@@ -41,14 +41,14 @@ module _ (cells : Path → InputKind → Cell) where
 
   module _ (answers : List ℤ) (number : ℤ) (act : Act CodeState) (at : Place) (operation : Operation) (next : ℤ → Act CodeState)
       (asks : left_of cells answers act ≡ Asks at operation next) where
-    -- an answer to what stands first is used
+    -- an answer to the first operation that remains is used
     pub uses_one : UsesAll cells answers act → UsesAll cells (answers ++ number ∷ []) act
     unfolding UsesAll
     uses_one uses =
         uses_after answers (number ∷ []) act uses
         (subst (UsesAll cells (number ∷ [])) (sym asks) (uses_none (next number)))
 
-    -- and what follows it is left
+    -- and what follows this operation remains
     pub left_of_one : left_of cells (answers ++ number ∷ []) act ≡ left_of cells [] (next number)
     unfolding left_of
     left_of_one = left_after cells answers (number ∷ []) act ∙ ap (left_of cells (number ∷ [])) asks

@@ -30,7 +30,7 @@ use Rattle.cs_explored.specs.Watching.{IsPhaseAfterLabel}
 use Rattle.cs_successors.specs.Coming.{IsTruth}
 
 module _ (model : DataModel) (asking : Asking) where
-  -- what is asked is a test, of which any truth may be guessed and shows; whether it is followed doesn't depend on the valuation
+  -- the question is a test: any truth may be guessed for it, and is shown; whether it is followed doesn't depend on the valuation
   pub record IsTest (v w : Valuation) : Type 0 where
     pub followed : asking.IsFollowed v → asking.IsFollowed w
     pub may : (truth : Bool) → asking.IsGuess v (truth_number truth)
@@ -38,8 +38,8 @@ module _ (model : DataModel) (asking : Asking) where
     pub shown : (given : Option ℤ)
         → shows model (asking.operation v) given ≡ label.Truth (is_true (result_with model (asking.operation v) given))
 
-  -- under two valuations with which the same shows without a guess, the operation is followed under both or none. A guess that shows what the operation
-  -- shows without one is a truth, and a truth is guessed of a test alone. Nothing is guessed at a call, so that the phase is the same with a guess
+  -- if an operation shows the same label without a guess under two valuations, it is followed under both or neither. A guess that shows an operation's own
+  -- label is a truth, and a truth is guessed only for a test. Nothing is guessed at a call, so the phase is the same with a guess
   pub record TellsFollowed : Type 0 where
     pub alike : (v w : Valuation) → asking.IsFollowed v
         → shows model (asking.operation v) None ≡ shows model (asking.operation w) None → asking.IsFollowed w
@@ -52,7 +52,7 @@ module _ (model : DataModel) (asking : Asking) where
         → IsPhaseAfterLabel rules phase place (shows model (asking.operation w) (Some number)) after
         → IsPhaseAfterLabel rules phase place (shows model (asking.operation v) None) after
 
--- a quotient is far just where it shows so
+-- the label `Far` is shown exactly for a far quotient
 far_shows : (q : ℤ) → IsFar q → wrap_of q ≡ Far
 far_shows (pos zero) far = absurd (far.1 refl)
 far_shows (pos (suc zero)) far = absurd (far.2 refl)
@@ -79,11 +79,11 @@ no_guess (negsuc (suc n)) e = cc
 same_wrap : (one other : Wrap) → label.Wrap one ≡ label.Wrap other → one ≡ other
 same_wrap one other e = cc
 
--- two quotients that show alike are far together
+-- of two quotients with the same label both are far or neither is
 near_alike : (p q : ℤ) → label.Wrap (wrap_of p) ≡ label.Wrap (wrap_of q) → ¬ IsFar p → ¬ IsFar q
 near_alike p q shown near far = near (shows_far p (same_wrap (wrap_of p) (wrap_of q) shown ∙ far_shows q far))
 
--- truths may be guessed
+-- a truth is a number that may be guessed
 is_between : (truth : Bool) → IsBetween (pos 0) (pos 1) (truth_number truth)
 is_between true = (omega (arith, ints), omega (arith, ints))
 is_between false = (omega (arith, ints), omega (arith, ints))
@@ -204,11 +204,11 @@ module _ (model : DataModel) (sets : Sets) where
   may (question.Test tested term) v w number same allowed = absurd allowed
   may (question.Callee function) v w number same allowed = absurd allowed
 
-  -- so it is with each question
+  -- so it is for each question
   pub question_tells : (asked : Question) → TellsFollowed model (asking_of model sets asked)
   question_tells asked = record { alike = alike asked; truth = truth asked; test = test asked; may = may asked; phases = phases asked }
 
--- and with a `switch`, which is always followed
+-- and for a `switch`, which is always followed
 pub cases_tell : (model : DataModel) (term : Lin) (cases : List SwitchCase) → TellsFollowed model (asking_of_cases term cases)
 cases_tell model term cases = record {
   alike = λ v w followed shown. tt;

@@ -38,7 +38,7 @@ use Rattle.cs_successors.proofs.Passing.{one_alone}
 use Rattle.cs_pieces.proofs.OneMoreAnswer.{left_of_one}
 use Rattle.cs_pieces.proofs.StandingFirst.{StandsFirst, stands_first}
 
--- the event that an operation is where a guess is used or none
+-- the event of an operation, with or without a guess
 abbrev pub event_with : DataModel → Place → Operation → Option ℤ → Event
 event_with model at operation given = record { place = at; label = shows model operation given }
 
@@ -54,7 +54,7 @@ module _ (code : Code) (program : TypedProgram) (budgets : RunBudgets) (names : 
   module _ (setting : Setting) (v : Valuation) (left : Act CodeState) (log : Log) (goes : GoesBy code program budgets names setting)
       (here : IsAt code program budgets names state setting v left log) (operation : Operation) (onward : ℤ → Act CodeState)
       (asks : next_left code names program budgets (read_cell setting) state v ≡ Asks at operation onward) where
-    -- the log once reads and touches before the event were gone through
+    -- the log after the reads and touches before the event
     stands : StandsFirst setting log.events (first_of setting log left) (Asks at operation onward)
     stands = stands_first setting log left (Asks at operation onward) (here.same ∙ asks)
 
@@ -71,7 +71,7 @@ module _ (code : Code) (program : TypedProgram) (budgets : RunBudgets) (names : 
         (with_event later (Operates at operation) (event_with model at operation given))
         else Ended (Over Events at) later
 
-    -- where the budget is used up, the run ends
+    -- if the budget of events is used up, the run ends
     pub asks_over : budgets.events ≤ state.counters.events → (end : Log) × (first_of setting log left ≡ Ended (Over Events at) end)
     asks_over full = (later, stands.2 ∙ ap (λ (room : Bool). found setting.model room (used_guess setting later operation)) none)
       where
@@ -83,7 +83,7 @@ module _ (code : Code) (program : TypedProgram) (budgets : RunBudgets) (names : 
 
     module _ (room : state.counters.events < budgets.events) (given : Option ℤ)
         (uses : used (guess_range program.model operation) (guess_at setting.guesses (suc state.counters.events)) ≡ given) where
-      -- within the budget, it shows
+      -- within the budget, it shows the event
       asks_shows : first_of setting log left ≡ found program.model true given
       asks_shows = stands.2 ∙ (λ i. found (goes.model i) (some i) (used_is i))
         where
@@ -98,17 +98,17 @@ module _ (code : Code) (program : TypedProgram) (budgets : RunBudgets) (names : 
               (λ i. used (guess_range (goes.model i) operation) (guess_at setting.guesses (suc (many i))))
               ∙ uses
 
-      -- so the run comes to it
+      -- so the run reaches this step
       pub comes_to_step : ShowsAfter (code_step code program budgets) setting (first_of setting log left) [] (step_with program.model at operation given)
       comes_to_step = comes asks_shows
 
-      -- and no other step can come next
+      -- and no other step can be next
       pub only_step : (one : Step) (rest : Act CodeState) (end : Log)
           → LeavesAfter (code_step code program budgets) setting (first_of setting log left) (one ∷ []) rest end
           → step_with program.model at operation given ≡ one
       only_step one rest end leaves = (one_alone (code_step code program budgets) setting (now asks_shows) leaves).0
 
-      -- the state directly after the event, under a valuation that gives what the state mentions the same numbers
+      -- the state directly after the event, under a valuation that agrees on what the state mentions
       module _ (after : State) (answer : Lin) (other : Valuation)
           (answers : after.answers ≡ state.answers ++ answer ∷ [])
           (means : meaning code names program after other ≡ meaning code names program state other)

@@ -72,7 +72,7 @@ use Rattle.cs_pieces.proofs.UsedGuesses.{used_none, own_leads_on}
 abbrev no_cells : Path → InputKind → Cell
 no_cells path kind = UnsetCell
 
--- a valuation that gives a symbol the number already
+-- changing a symbol's number to the one that it has changes nothing
 with_own : (symbol : ℕ) (number : ℤ) (v : Valuation) → v symbol ≡ number → with_number symbol number v ≡ v
 with_own symbol number v own_number = λ i other. same other i
   where
@@ -84,13 +84,13 @@ with_own symbol number v own_number = λ i other. same other i
 
 module _ (code : Code) (program : TypedProgram) (budgets : RunBudgets) (names : Naming) (rules : List Rule) (state : State)
     (is : IsIntegerState code program budgets names state) (at : Place) where
-  -- what shows first under each valuation that fits: an operation of integer code
+  -- what comes first under each valuation that fits: an operation of integer code
   abbrev pub Shows : Asking → Type 0
   Shows asking = (cells : Path → InputKind → Cell) (v : Valuation) → Fits v state.constraints
       → IsOfIntegers (asking.operation v)
       × ((onward : ℤ → Act CodeState) × (next_left code names program budgets cells state v ≡ Asks at (asking.operation v) onward))
 
-  -- a number that may be guessed is used, and is that of a new symbol, which stands for the guess at the next event
+  -- a number that may be guessed is used, and is that of a new symbol, which represents the guess at the next event
   pub record IsUsed (guess : Sym) (asking : Asking) (v : Valuation) (number : ℤ) : Type 0 where
     pub used_is : used (guess_range program.model (asking.operation v)) (Some number) ≡ Some number
     pub fresh : set_of state.constraints guess.0 ≡ None
@@ -114,7 +114,7 @@ module _ (code : Code) (program : TypedProgram) (budgets : RunBudgets) (names : 
     with_fits None piece exact v fits = (exact.from v fits).0
     with_fits (Some guessed) piece inexact v fits = (inexact.from v fits).0
 
-    -- a valuation with another number for the guess gives declared symbols the same numbers
+    -- a valuation with another number for the guess agrees on declared symbols
     beside_guess : (number : ℤ) (v : Valuation) → set_of state.constraints guess.0 ≡ None
         → (symbol : ℕ) → is_declared state.constraints symbol ≡ true → with_number guess.0 number v symbol ≡ v symbol
     beside_guess number v fresh symbol declared = with_number-other guess.0 number v symbol (λ same.
@@ -122,7 +122,7 @@ module _ (code : Code) (program : TypedProgram) (budgets : RunBudgets) (names : 
         let wrong : true ≡ false = sym declared ∙ none in
         cc)
 
-    -- what shows is the same under valuations that agree on the symbols that the state mentions
+    -- the operation is the same under valuations that agree on the symbols that the state mentions
     same_operation : (known : ℕ → Bool) → HasLocalsAlone program names.bases known state → (v w : Valuation) → Fits v state.constraints
         → Fits w state.constraints → ((symbol : ℕ) → known symbol ≡ true → w symbol ≡ v symbol) → asking.operation v ≡ asking.operation w
     same_operation known mentioned v w fits others agree =
@@ -159,7 +159,7 @@ module _ (code : Code) (program : TypedProgram) (budgets : RunBudgets) (names : 
       number_is : after.counters.events ≡ state.counters.events + 1
       number_is = ap (λ (s : State). s.counters.events) of.state
 
-      -- the piece's own answer leads on
+      -- a child continues with its piece's own answer
       own_leads : leads_on piece.label piece.answer ≡ piece.answer
       own_leads = by piece.guessed is_piece.meaning
         where
@@ -177,11 +177,11 @@ module _ (code : Code) (program : TypedProgram) (budgets : RunBudgets) (names : 
           by None exact = let from = exact.from some is_piece.some.1 in of_label None from.0 from.2
           by (Some what) inexact = let from = inexact.from some is_piece.some.1 in of_label (Some (some guess.0)) from.0 from.3
 
-      -- with its values
+      -- whose values are the same
       answer_is : (v : Valuation) → Fits v state.constraints → value_of v answer ≡ value_of v piece.answer
       answer_is v fits = of.settled.values v fits ∙ ap (value_of v) own_leads
 
-      -- the state of the child is one of integers alone
+      -- the state of the child is one of integers only
       more : (symbol : ℕ) → is_declared state.constraints symbol ≡ true → is_declared after.constraints symbol ≡ true
       more = stays_declared state.constraints after.constraints (is_piece.some.0, fits_after is_piece.some.0 is_piece.some.1) fits_state
 
@@ -237,7 +237,7 @@ module _ (code : Code) (program : TypedProgram) (budgets : RunBudgets) (names : 
             (asked_before state.counters.events child.guess state.asked after.asked is.guessed asked_after asked among);
       }
 
-      -- the answer depends on no symbol but those that the state mentions and that of the guess
+      -- the answer depends only on symbols that the state mentions and on that of the guess
       module _ (known : ℕ → Bool) (mentioned : HasLocalsAlone program names.bases known state) (symbol : Sym) (over : answer.sym ≡ Some symbol)
           (depends : DependsOn state.constraints answer symbol) (unknown : known symbol.0 ≡ false) where
         abbrev base : Valuation
@@ -311,7 +311,7 @@ module _ (code : Code) (program : TypedProgram) (budgets : RunBudgets) (names : 
               by true is_known depends = includes symbol.0 is_known
               by false unknown depends = absurd (depends_not known mentioned symbol is depends unknown)
 
-      -- runs pass its event to the child
+      -- runs pass the child's event and reach it
       module _ (setting : Setting) (v : Valuation) (left : Act CodeState) (log : Log) (goes : GoesBy code program budgets names setting)
           (here : IsAt code program budgets names state setting v left log) where
         passes_with : (given : Option ℤ)
@@ -334,7 +334,7 @@ module _ (code : Code) (program : TypedProgram) (budgets : RunBudgets) (names : 
         abbrev own : ℤ
         own = own_result program.model (asking.operation v)
 
-        -- under a valuation that fits the child, with which the guess that is listed agrees
+        -- a run reaches the child under a valuation that fits it, if its listed guess agrees with the valuation
         child_passes : Fits v after.constraints → GuessesAs code program budgets names setting child v
             → (to : PassesTo code program budgets names after setting v left log) × (to.one.event ≡ child.event)
         child_passes fits agrees = by piece.guessed refl is_piece.meaning
@@ -362,7 +362,7 @@ module _ (code : Code) (program : TypedProgram) (budgets : RunBudgets) (names : 
                 (answer_is v here.fits ∙ inexact.answer v (fits_piece v fits)) in
                 (to.0, to.1 ∙ labelled (Some (v guess.0)) from.3)
 
-        -- under a valuation of the piece, with no guess
+        -- a run reaches the child under a valuation of its piece, without a guess
         covers_piece : (made : List Child) (place : ℕ) → slice_get made place ≡ Some child
             → guess_at setting.guesses (suc state.counters.events) ≡ None → IsIn program.model guess.0 asking v piece.guessed piece
             → ComesToChild code program budgets names made setting v left log
@@ -437,7 +437,7 @@ module _ (code : Code) (program : TypedProgram) (budgets : RunBudgets) (names : 
           own_label : (given : Option ℤ) → Uses given → shows program.model (asking.operation v) given ≡ piece.label
           own_label given uses = ap (λ (s : Step). s.event.label) (step_is given uses) ∙ ap (λ (event : Event). event.label) (same ∙ of.event)
 
-          -- has come to the child, if its valuation is one of the piece
+          -- has reached the child, if its valuation is one of the piece
           at_child : (given : Option ℤ) → Uses given → Fits v piece.constraints
               → value_of v piece.answer ≡ result_with program.model (asking.operation v) given
               → IsAt code program budgets names after setting v rest later
@@ -448,7 +448,7 @@ module _ (code : Code) (program : TypedProgram) (budgets : RunBudgets) (names : 
               subst (λ (act : Act CodeState). IsAt code program budgets names after setting v act later) that.1
               (subst (λ (l : Log). IsAt code program budgets names after setting v to.0.rest l) that.2 to.0.comes)
 
-          -- an exact piece keeps all valuations under which its label shows
+          -- an exact piece keeps all valuations under which its label is shown
           by_exact : Exact piece → guess_at setting.guesses (suc state.counters.events) ≡ None
               → IsAt code program budgets names after setting v rest later
           by_exact exact without =
@@ -457,7 +457,7 @@ module _ (code : Code) (program : TypedProgram) (budgets : RunBudgets) (names : 
               let fits = exact.back v here.fits (tells.alike is_piece.some.0 v some.1 (some.2 ∙ sym label)) label in
               at_child None (not_used without) fits (exact.answer v fits)
 
-          -- and one with the guess of a test those that give its symbol the truth that leads on
+          -- and one with the guess of a test those under which the guess symbol is the truth with which it continues
           by_test : OfGuess piece → (given : Option ℤ) → Uses given → IsTruth piece.label
               → (truth : Bool) → result_with program.model (asking.operation v) given ≡ truth_number truth
               → v guess.0 ≡ result_with program.model (asking.operation v) given → IsAt code program budgets names after setting v rest later
@@ -514,7 +514,7 @@ module _ (code : Code) (program : TypedProgram) (budgets : RunBudgets) (names : 
                       by_test inexact (Some (truth_number truth)) uses label truth refl
                       (gives guess (guess_is (Some what) some) ∙ ap (λ o. unwrap_or o one.answer) is_listed)
 
-      -- what the child notes of its guess
+      -- what the child notes about its guess
       noted_with : (what : Guessed) → piece.guessed ≡ Some what → IsNotedOf program.model state.constraints asking what
           → IsNotedAt code program budgets names state child (asked_for (state.counters.events + 1) guess what)
       noted_with what some of_asked = record {
@@ -557,7 +557,7 @@ module _ (code : Code) (program : TypedProgram) (budgets : RunBudgets) (names : 
               let is_noted : asked ≡ asked_for (state.counters.events + 1) guess what = cc in
               subst (IsNotedAt code program budgets names state child) (sym is_noted) (noted_with what some (notes what some))
 
-      -- the piece makes a child
+      -- the piece has a child
       is_child : Notes piece → IsChildOf code program budgets names rules state child
       is_child notes = record {
         integer = child_integer;
@@ -653,7 +653,7 @@ module _ (code : Code) (program : TypedProgram) (budgets : RunBudgets) (names : 
     labels_differ (piece ∷ pieces) (child ∷ made) match apart (suc one) (suc other) first second here there same =
         ap suc (labels_differ pieces made match.1 apart.1 one other first second here there same)
 
-    -- all pieces are all that comes of the state
+    -- the children of all pieces are the only successors of the state
     pub pieces_come : (pieces : List Piece) (made : List Child) → IsSplit program.model state.constraints guess.0 asking pieces
         → Each Notes pieces → AreOfPieces rules state at guess pieces made → Comes code program budgets names rules state made []
     pieces_come pieces made split notes match = record {
@@ -664,7 +664,7 @@ module _ (code : Code) (program : TypedProgram) (budgets : RunBudgets) (names : 
       labels_differ = labels_differ pieces made match split.labels;
     }
 
--- where the budget of events is used up, the end is all that comes of a state
+-- if the budget of events is used up, the end is the only successor of a state
 module _ (code : Code) (program : TypedProgram) (budgets : RunBudgets) (names : Naming) (rules : List Rule) (box : Box State)
     (is : IsIntegerState code program budgets names box.value) (at : Place) (asking : Asking)
     (first : Shows code program budgets names rules box.value is at asking) (full : budgets.events ≤ box.value.counters.events) where

@@ -26,7 +26,7 @@ use Rattle.cs_successors.specs.Coming.{AreGuessesAfter, ListsNoneOrTruth, GivesO
 use Rattle.cs_successors.proofs.Passing.{after_silent_steps, leaves_no_end}
 use Rattle.cs_successors.proofs.Proceeding.{proceeds_on, leaves_on, shows_on}
 
--- items of a list stay where others come after it, and are there where others come before it
+-- items of a list keep their indices if others come after it, and are there too if others come before it
 pub item_first : {X : Type 0} (xs ys : List X) (k : ℕ) (x : X) → slice_get xs k ≡ Some x → slice_get (xs ++ ys) k ≡ Some x
 item_first [] ys k x is = cc
 item_first (y ∷ xs) ys zero x is = is
@@ -40,7 +40,7 @@ module _ (code : Code) (program : TypedProgram) (budgets : RunBudgets) (names : 
   abbrev step : CodeState → Act CodeState
   step = code_step code program budgets
 
-  -- ways that begin with a silent one
+  -- paths that begin with a silent one
   module _ (setting : Setting) (valuation : Valuation) (left rest : Act CodeState) (log later : Log) (way : Proceeds step setting left log [] rest later) where
     passes_after : (state : State) → PassesTo code program budgets names state setting valuation rest later
         → PassesTo code program budgets names state setting valuation left log
@@ -95,7 +95,7 @@ module _ (code : Code) (program : TypedProgram) (budgets : RunBudgets) (names : 
       ending = ends_after comes.end.0 comes.end.1.value comes.ending;
     }
 
-  -- ends among others
+  -- an end in a longer list of ends
   module _ (setting : Setting) (valuation : Valuation) (left : Act CodeState) (log : Log) (ends more : List StateEnd) where
     first_end : ComesToEnd code program budgets names ends setting valuation left log
         → ComesToEnd code program budgets names (ends ++ more) setting valuation left log
@@ -108,7 +108,7 @@ module _ (code : Code) (program : TypedProgram) (budgets : RunBudgets) (names : 
         let there = item_last ends more comes.place comes.end comes.there in
         record { place = there.0; end = comes.end; there = there.1; ending = comes.ending }
 
-  -- no run has come anywhere yet
+  -- a state is reached from itself
   pub reached_itself : (state : State) → IsIntegerState code program budgets names state → IsReachedFrom code program budgets names state state []
   reached_itself state is = record {
     integer = is;
@@ -148,7 +148,7 @@ module _ (code : Code) (program : TypedProgram) (budgets : RunBudgets) (names : 
         All-append (IsEndOf code program budgets names before) ends more reached.endings
         (All-weaker (IsEndOf code program budgets names one) (IsEndOf code program budgets names before) end_of_first more are)
 
-    -- runs come from one state to another, and from there to a third
+    -- runs reach one state from another, and from there a third one
     pub reached_on : (two : State) (more : List StateEnd) → IsReachedFrom code program budgets names one two more
         → IsReachedFrom code program budgets names before two (ends ++ more)
     reached_on two more next = record {
@@ -180,7 +180,7 @@ module _ (code : Code) (program : TypedProgram) (budgets : RunBudgets) (names : 
       ];
     }
 
-  -- all that comes of a state, whether or not its ends differ
+  -- all successors of a state, whose ends may be alike
   pub record Comes (rules : List Rule) (before : State) (made : List Child) (ends : List StateEnd) : Type 0 where
     pub children : All (IsChildOf code program budgets names rules before) made
     pub endings : All (IsEndOf code program budgets names before) ends
@@ -191,7 +191,7 @@ module _ (code : Code) (program : TypedProgram) (budgets : RunBudgets) (names : 
     pub labels_differ : (one other : ℕ) (first second : Child) → slice_get made one ≡ Some first → slice_get made other ≡ Some second
         → first.event.label ≡ second.event.label → one ≡ other
 
-  -- where no run passes an event, the ends are all
+  -- if no run passes an event, the ends are the only successors
   pub ends_come : (rules : List Rule) (before : State) (ends : List StateEnd) → All (IsEndOf code program budgets names before) ends
       → ((setting : Setting) (valuation : Valuation) (left : Act CodeState) (log : Log) → GoesBy code program budgets names setting
       → IsAt code program budgets names before setting valuation left log
@@ -203,7 +203,7 @@ module _ (code : Code) (program : TypedProgram) (budgets : RunBudgets) (names : 
     labels_differ = λ one other first second here there. cc;
   }
 
-  -- and so is one end, where all runs end so
+  -- and so is one end, if all runs end in it
   pub one_end_comes : (rules : List Rule) (box : Box State) → IsIntegerState code program budgets names box.value → (outcome : Outcome)
       → ((setting : Setting) (valuation : Valuation) (left : Act CodeState) (log : Log) → GoesBy code program budgets names setting
       → IsAt code program budgets names box.value setting valuation left log
@@ -229,7 +229,7 @@ module _ (code : Code) (program : TypedProgram) (budgets : RunBudgets) (names : 
       })
 
   module _ (rules : List Rule) (before one : State) (ends : List StateEnd) (reached : IsReachedFrom code program budgets names before one ends) where
-    -- a run that passes an event comes to the state that was reached first, and passes it from there
+    -- a run that passes an event reaches the intermediate state first, and passes the event from there
     pub record ComesFirst (setting : Setting) (valuation : Valuation) (left rest : Act CodeState) (log later : Log) (shown : Step) : Type 0 where
       pub way : ComesSilently code program budgets names one setting valuation left log
       pub leaves : LeavesAfter step setting (first_of setting way.later way.rest) (shown ∷ []) rest later
@@ -244,7 +244,7 @@ module _ (code : Code) (program : TypedProgram) (budgets : RunBudgets) (names : 
       | inr end ↦ absurd (leaves_no_end step setting end.ending.proceeds end.ending.ends leaves)
     ]
 
-    -- what is noted at that state was asked after the one before, too
+    -- what is noted after the intermediate state was asked after the one before, too
     noted_before : (child : Child) (asked : Asked) → IsNotedAt code program budgets names one child asked
         → IsNotedAt code program budgets names before child asked
     noted_before child asked at_one = record {
@@ -265,7 +265,7 @@ module _ (code : Code) (program : TypedProgram) (budgets : RunBudgets) (names : 
           at_one.own setting valuation first.way.rest rest first.way.later later shown goes first.way.comes first.leaves;
     }
 
-    -- a run that passes the event of a child has come to it
+    -- a run that passes the event of a child has reached it
     came_back : (child : Child) → IsChildOf code program budgets names rules one child → (setting : Setting) (valuation : Valuation)
         (left rest : Act CodeState) (log later : Log) (shown : Step) → GoesBy code program budgets names setting
         → IsAt code program budgets names before setting valuation left log
@@ -296,7 +296,7 @@ module _ (code : Code) (program : TypedProgram) (budgets : RunBudgets) (names : 
       mentions = λ known more mentioned includes with_guess. is.mentions known more (reached.mentions known mentioned) includes with_guess;
     }
 
-    -- all that comes of the state that was reached, and the ends on the way to it
+    -- the successors of the intermediate state, and the ends on the way to it
     pub comes_of : (made : List Child) (more : List StateEnd) → Comes rules one made more → OutcomesDiffer (ends ++ more)
         → ComesOfState code program budgets names rules before made (ends ++ more)
     comes_of made more comes differ = record {

@@ -53,7 +53,7 @@ module _ (code : Code) (program : TypedProgram) (budgets : RunBudgets) (names : 
   abbrev step : CodeState → Act CodeState
   step = code_step code program budgets
 
-  -- the state of the run that stands at a spot, without callers
+  -- the machine state of a run at a spot, without callers
   abbrev spotted : Memory → Spot → State → Valuation → SpotState
   spotted memory spot state v = record {
     frame = record {
@@ -79,14 +79,14 @@ module _ (code : Code) (program : TypedProgram) (budgets : RunBudgets) (names : 
   abbrev points : Memory → Spot → State → Valuation → CodeState
   points memory spot state v = at_points code (to_do spot (spotted memory spot state v))
 
-  -- what a state without callers means
+  -- the machine state that a state without callers represents
   at_spots : (state : State) (v : Valuation) (spot : Spot) → state.callers ≡ []
       → meaning code names program (at_spot spot state) v ≡ points (memory_with state v spot.function) spot state v
   at_spots state v spot none = λ i. record (points (memory_with state v spot.function) spot state v) {
     callers = ap (map (frame_of code names (at_spot spot state) v)) none i;
   }
 
-  -- a run whose state stands at a spot comes to the spots to which jumps lead
+  -- a run whose state is at a spot reaches the spots to which jumps lead
   jumped : (setting : Setting) (log : Log) (state : State) (v : Valuation) (spot : Spot) → state.callers ≡ [] → JumpsTo code spot state.frame.spot
       → Proceeds step setting (step (meaning code names program (at_spot spot state) v)) log [] (step (meaning code names program state v)) log
   jumped setting log state v spot none way =
@@ -110,7 +110,7 @@ module _ (code : Code) (program : TypedProgram) (budgets : RunBudgets) (names : 
     fits_after : (v : Valuation) → Fits v before.constraints → Fits v after.constraints
     fits_after v fits = subst (λ (sets : Sets). Fits v sets) (sym known.constraints) fits
 
-    -- the state is one of integers alone yet
+    -- the state remains one of integers only
     stays_integer : IsIntegerState code program budgets names after
     stays_integer = record {
       model = known.model ∙ is.model;
@@ -125,7 +125,7 @@ module _ (code : Code) (program : TypedProgram) (budgets : RunBudgets) (names : 
           (is.guessed asked (subst (λ guesses. Contains (finite.values guesses) asked) known.asked among));
     }
 
-    -- runs come to it silently
+    -- runs reach it silently
     silently_reached : ((setting : Setting) (v : Valuation) (left : Act CodeState) (log : Log) → GoesBy code program budgets names setting
         → IsAt code program budgets names before setting v left log → ComesSilently code program budgets names after setting v left log)
         → IsReachedFrom code program budgets names before after []
@@ -191,7 +191,7 @@ module _ (code : Code) (program : TypedProgram) (budgets : RunBudgets) (names : 
             };
           })
 
-      -- and what stands first then
+      -- and what comes first then
       pub begins_in : (cells : Path → InputKind → Cell) (v : Valuation) → Fits v after.constraints
           → BeginsIn code names.bases after v first (next_left code names program budgets cells after v)
       begins_in cells v fits =

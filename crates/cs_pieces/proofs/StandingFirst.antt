@@ -7,7 +7,7 @@ use Rattle.cs_event_runs.specs.First.{First, Silent, Ended, operated, shown_if_a
 use Rattle.cs_event_runs.specs.Left.{left_of}
 
 module _ {State : Type 0} (setting : Setting) where
-  -- what stands first where this is left, with a log that has these events
+  -- what comes first in what remains, with a log that has these events
   abbrev pub StandsFirst : List Event → First State → Act State → Type 0
   StandsFirst events first (Goes next) = (later : Log) × (later.events ≡ events) × (first ≡ Silent next later)
   StandsFirst events first (Stops outcome) = (later : Log) × (later.events ≡ events) × (first ≡ Ended outcome later)
@@ -29,7 +29,7 @@ module _ {State : Type 0} (setting : Setting) where
   stands log (Allocates at path onward) = tt
   stands log (Reaches at object offset act) = tt
 
-  -- the same of an act of which this is left
+  -- the same for an act of which this remains
   pub stands_first : (log : Log) (act left : Act State) → left_of (read_cell setting) [] act ≡ left
       → StandsFirst log.events (first_of setting log act) left
   stands_first log act left is = subst (StandsFirst log.events (first_of setting log act)) is (stands log act)

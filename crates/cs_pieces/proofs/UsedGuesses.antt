@@ -22,7 +22,7 @@ use Rattle.cs_eval.specs.Questions.{operation_of}
 use Rattle.cs_explored.specs.Answering.{leads_on}
 use Rattle.cs_pieces.proofs.IntegerActs.{IsNoAllocation}
 
--- no guess is none that is used
+-- without a guess none is used
 pub used_none : (range : Option (ℤ × ℤ)) → used range None ≡ None
 used_none None = refl
 used_none (Some range) = refl
@@ -34,7 +34,7 @@ used_within range number from to = ap (λ (b : Bool). if b then Some number else
     within : lies_in range number ≡ true
     within = grind (arith, ints)
 
--- a number that may be guessed for an operator lies in its type
+-- a number that may be guessed for an operator is in its type
 in_type : (model : DataModel) (sets : Sets) (op : BinOp) (ty : IntType) (left right : Lin) (v : Valuation) (number : ℤ)
     → IsBinaryGuess model sets op ty left right v number → InRange model ty number
 in_type model sets Add ty left right v number may = may
@@ -64,7 +64,7 @@ guess_is_used model sets (question.Unary op ty term) v number may = absurd may
 guess_is_used model sets (question.Test tested term) v number may = absurd may
 guess_is_used model sets (question.Callee function) v number may = absurd may
 
--- the operation's own answer leads on where no allocation shows
+-- an operation that isn't an allocation continues with its own answer
 pub own_leads_on : (model : DataModel) (one : Operation) (guess : Option ℤ) (answer : Lin) → IsNoAllocation one
     → leads_on (shows model one guess) answer ≡ answer
 own_leads_on model (operation.Binary op ty left right) guess answer none = refl

@@ -28,7 +28,7 @@ module _ {V : Type 0} where
       → find key_cmp k (branch_entries b) ≡ find key_cmp k b.right.0
   find_in_right k b balanced p = find_right key_cmp key_cmp_total k b.left.0 (b.key, b.value) b.right.0 p balanced.sorted
 
--- `is` says that the tree is the branch b; `left`, `value` and `right` are what the new branch is made of
+-- `is` states that the tree is the branch b; `left`, `value` and `right` are the parts of the new branch
 module _ {V : Type 0} {tree : EntryList V × ℕ} {b : Branch V} where
   pub sorted_put : {new : EntryList V} (k : ℕ × ℕ) (v : V) → (tree ≡ (branch_entries b, b.height)) × IsBalanced b → new ≡ put key_cmp k v tree.0
       → Sorted key_cmp new

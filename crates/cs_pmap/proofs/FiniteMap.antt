@@ -60,7 +60,7 @@ module _ {V : Type 0} where
       (λ q. get-map_of new q (Sorted-without es new k s e) ∙ ap (find key_cmp q) e ∙ find-without es k q
       ∙ ap (cond (eq_by_cmp key_cmp q k) None) (sym (get-map_of es q s)) ∙ sym (get-remove key_cmp_total (map_of es) k q))
 
-  -- where a look-up finds nothing, nothing is to be removed
+  -- if a look-up finds nothing, there is nothing to remove
   pub map_of-absent : (es : EntryList V) (k : ℕ × ℕ) (found : Option (Bor V)) → Sorted key_cmp es → option_copied found ≡ find key_cmp k es
       → is_some found ≡ false → map_of es ≡ remove (map_of es) k
   map_of-absent es k None s e n = map_of-without es es k s (sym (without_missing key_cmp k es (sym e)))

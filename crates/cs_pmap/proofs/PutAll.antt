@@ -30,7 +30,7 @@ and_false false = refl
 itself : (k : ℕ × ℕ) → key_cmp k k ≡ Equal
 itself k = ties (key_cmp k k) (key_cmp_total.antisymm k k)
 
--- a comparison from the other side
+-- a reversed comparison
 turned_less : (x y : ℕ × ℕ) → key_cmp x y ≡ Less → key_cmp y x ≡ Greater
 turned_less x y p = key_cmp_total.antisymm y x ∙ ap ordering_reverse p
 
@@ -38,7 +38,7 @@ turned_greater : (x y : ℕ × ℕ) → key_cmp x y ≡ Greater → key_cmp y x 
 turned_greater x y p = key_cmp_total.antisymm y x ∙ ap ordering_reverse p
 
 module _ {V : Type 0} where
-  -- entries put on either side of one
+  -- entries inserted before and after one
   pub put_all-sorted : (es l : EntryList V) → Sorted key_cmp l → Sorted key_cmp (put_all es l)
   put_all-sorted [] l s = s
   put_all-sorted (e ∷ es) l s = put_all-sorted es (put key_cmp e.0 e.1 l) (Sorted-put l _ e.0 e.1 s refl)
@@ -61,7 +61,7 @@ module _ {V : Type 0} where
       ap (put_all es) step
       ∙ put_all-right es l m (put key_cmp e.0 e.1 r) c.1 (Sorted-put (l ++ m ∷ r) (l ++ m ∷ put key_cmp e.0 e.1 r) e.0 e.1 s (sym step))
 
-  -- entries in ascending order put into nothing
+  -- entries in ascending order, inserted into an empty list
   put_last : (k : ℕ × ℕ) (v : V) (l : EntryList V) → Sorted key_cmp (l ++ (k, v) ∷ []) → put key_cmp k v l ≡ l ++ (k, v) ∷ []
   put_last k v [] s = refl
   put_last k v (y ∷ t) s =
@@ -89,7 +89,7 @@ module _ {V : Type 0} where
       → put key_cmp k v (l ++ (k, w) ∷ r) ≡ l ++ (k, v) ∷ r
   put_over l k v w r s = put_middle key_cmp key_cmp_total k v l (k, w) r (itself k) s
 
-  -- what the merged sides make, where a key divides the entries
+  -- the entries of the merged sides, if a key divides the entries
   divided : (es : EntryList V) (root : Branch V) (around : Around V) → Sorted key_cmp (branch_entries root)
       → IsSplitAround es root.key root.value around
       → put_all es (branch_entries root)
@@ -130,7 +130,7 @@ module _ {V : Type 0} where
             (sorted_back key_cmp around.before.now ((k, around.value.now) ∷ around.after.now) (subst (Sorted key_cmp) w s))
       ]
 
-  -- `is` says that the tree is the branch `root`; `left`, `value` and `right` are what the new branch is made of
+  -- `is` states that the tree is the branch `root`; `left`, `value` and `right` are the parts of the new branch
   pub merged_is : {tree : EntryList V × ℕ} {left right : EntryList V} {value : V} (root : Branch V) (es : EntryList V) (around : Around V)
       → (tree ≡ (branch_entries root, root.height)) × IsBalanced root → IsSplitAround es root.key root.value around
       → left ≡ put_all around.before.now root.left.0 → value ≡ around.value.now → right ≡ put_all around.after.now root.right.0
@@ -141,7 +141,7 @@ module _ {V : Type 0} where
       → (tree ≡ (branch_entries root, root.height)) × IsBalanced root → new ≡ put_all es tree.0 → Sorted key_cmp new
   merged_sorted root es is e = rw (e, is.0) (put_all-sorted es (branch_entries root) is.1.sorted)
 
-  -- entries around one of a list in ascending order
+  -- the entries before and after one of a list in ascending order
   at_place : (es : EntryList V) (i : ℕ) (e : (ℕ × ℕ) × V) → i < length es → e ≡ get_or es i e → es ≡ take i es ++ e ∷ drop (i + 1) es
   at_place es i e b is =
       sym (take-append-drop i es) ∙ ap (λ w. take i es ++ w) (drop_more es i e b) ∙ ap (λ x. take i es ++ x ∷ drop (i + 1) es) (sym is)
@@ -171,7 +171,7 @@ module _ {V : Type 0} where
   less_then k [] e c p = (p, tt)
   less_then k (y ∷ t) e c p = (c.0, less_then k t e c.1 p)
 
-  -- a binary search has narrowed where the key's entry may be to those from `low` up to `high`
+  -- a binary search has narrowed the position of the key's entry to `low` up to `high`
   pub record Searched (es : EntryList V) (k : ℕ × ℕ) (low high : ℕ) : Type 0 where
     pub ordered : low ≤ high
     pub inside : high ≤ length es
@@ -259,7 +259,7 @@ module _ {V : Type 0} where
       map_of-put_all more (put key_cmp x.0 x.1 es) new (Sorted-put es _ x.0 x.1 s refl) e
       ∙ ap (λ m. insert_all m more) (map_of-put es (put key_cmp x.0 x.1 es) x.0 x.1 s refl)
 
-  -- each half of a list in ascending order ascends, and is shorter where an entry stands between them
+  -- each half of a list in ascending order ascends, and is shorter if there is an entry between them
   pub front_ascends : (es front : EntryList V) (n : ℕ) → Sorted key_cmp es → front ≡ take n es → Sorted key_cmp front
   front_ascends es front n s e =
       rw e (sorted_front key_cmp key_cmp_total (take n es) (drop n es) (rw (take-append-drop n es) s))

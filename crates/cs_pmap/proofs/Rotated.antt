@@ -5,7 +5,7 @@ use Rattle.cs_pmap.proofs.AtBranch.{key_cmp_total}
 use Rattle.cs_pmap.proofs.SortedEntries.{Sorted, sorted_inner_right, sorted_inner_left}
 
 module _ {V : Type 0} where
-  -- `low` and `high` are the inner side's own sides, and `copy` is what stands for one of the sides
+  -- `low` and `high` are the inner side's own sides, and `copy` is a copy of one of the sides
   pub sorted_past_left : {tree copy : EntryList V} (x : EntryList V) (e : (ℕ × ℕ) × V) (y : EntryList V) (f : (ℕ × ℕ) × V) (z : EntryList V)
       → tree ≡ x ++ e ∷ y → copy ≡ y → Sorted key_cmp (tree ++ f ∷ z) → Sorted key_cmp (copy ++ f ∷ z)
   sorted_past_left x e y f z is same s =

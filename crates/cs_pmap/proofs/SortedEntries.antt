@@ -23,7 +23,7 @@ less_from_lt Less h = refl
 less_from_lt Equal h = cc
 less_from_lt Greater h = cc
 
--- std's lemmas on sorted entries speak of `T`
+-- std's lemmas on sorted entries use `T`
 pub T-IsTrue : (b : Bool) → IsTrue b → T b
 T-IsTrue b h = subst T (sym h) tt
 
@@ -31,7 +31,7 @@ pub IsTrue-T : (b : Bool) → T b → IsTrue b
 IsTrue-T true h = refl
 IsTrue-T false h = absurd h
 
--- a key that is not below e is above each key that is
+-- a key that is at least e is above each key below e
 above_front : {K : Type 0} {R : K → K → Ordering} → IsTotalOrder R → (k y e : K) → is_lt (R k e) ≡ false → R y e ≡ Less → R k y ≡ Greater
 above_front {R = R} o k y e n p =
     elim (R k e) as (λ r. R k e ≡ r → is_lt r ≡ false → R k y ≡ Greater) [
@@ -132,7 +132,7 @@ module _ {K X : Type 0} (R : K → K → Ordering) where
         ap (λ w. cond (is_eq w) (Some y.1) (find R k t)) (above_front o k y.0 e.0 n (rises_past y e t r s))
         ∙ find_before k t e r n (sorted_tail y (t ++ e ∷ r) s)
 
-    -- a look-up, by how the key compares to the entry e
+    -- a look-up, by comparing the key to the entry e
     pub find_left : (k : K) (l : List (K × X)) (e : K × X) (r : List (K × X)) → R k e.0 ≡ Less → Sorted (l ++ e ∷ r)
         → find R k (l ++ e ∷ r) ≡ find R k l
     find_left k l e r p s = find-append_past k l (e ∷ r) (find_past k e r p (sorted_back l (e ∷ r) s))

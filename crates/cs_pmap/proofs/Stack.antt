@@ -23,7 +23,7 @@ module _ {V : Type 0} where
   FitsCapacity-push room (None ∷ cs) b h fits balanced = absurd h
   FitsCapacity-push room (Some c ∷ cs) b h fits balanced = (h.0, h.1, FitsCapacity-push (room - 1) cs b h.2 (omega arith) balanced)
 
-  -- what is known when the last branch leaves the stack
+  -- what holds after the last branch was popped from the stack
   pub record Popped (room : ℕ) (bs : List (Option (Bor (Branch V)))) (b : Branch V) : Type 0 where
     pub rest : FitsCapacity room bs
     pub fits : b.height + length bs ≤ room
@@ -46,15 +46,15 @@ module _ {V : Type 0} where
   no_blank room (None ∷ cs) h = h
   no_blank room (Some c ∷ cs) h = no_blank (room - 1) cs h.2
 
-  -- no place of the stack is empty
+  -- no item of the stack is empty
   pub not_blank : (room : ℕ) (items bs : List (Option (Bor (Branch V)))) → FitsCapacity room items → items ≡ bs ++ None ∷ [] → ⊥
   not_blank room items bs h e = no_blank room bs (subst (FitsCapacity room) e h)
 
-  -- a branch's tree has a level at least
+  -- a branch's tree has at least one level
   pub tall : {tree : EntryList V × ℕ} (b : Bor (Branch V)) → (tree ≡ (branch_entries b.now, b.now.height)) × IsBalanced b.now → 0 < tree.1
   tall b is = rw is.0 (omega (arith, is.1.height))
 
-  -- while a tree's left sides go on the stack: the stack fits, so does the tree, and both together hold all the entries
+  -- while a tree's left sides are pushed: the stack fits, so does the tree, and together they have all entries
   pub record Descends (room : ℕ) (bs : List (Option (Bor (Branch V)))) (tree : EntryList V × ℕ) (all : EntryList V) : Type 0 where
     pub fits : FitsCapacity room bs
     pub tree_fits : tree.1 + length bs ≤ room
@@ -73,7 +73,7 @@ module _ {V : Type 0} where
             ∙ ap (λ t. t.0 ++ pending bs) (sym is.0) ∙ down.entries);
       }
 
-  -- what a step of the iterator gives and leaves, where the branch b left the stack bs and the left sides of its right side went on it
+  -- the entry that a step of the iterator returns, and the entries that remain, if b was popped from bs and the left sides of b's right side were pushed
   pub stepped : {all after : EntryList V} (items bs : List (Option (Bor (Branch V)))) (b : Bor (Branch V)) → pending items ≡ all → items ≡ bs ++ Some b ∷ []
       → after ≡ b.now.right.0 ++ pending bs → all ≡ (b.now.key, b.now.value) ∷ after
   stepped items bs b view popped rest = sym view ∙ ap pending popped ∙ pending-push bs b ∙ ap (λ r. (b.now.key, b.now.value) ∷ r) (sym rest)

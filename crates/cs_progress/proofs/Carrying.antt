@@ -20,7 +20,7 @@ is_memory : Pause → Type 0
 is_memory pause.Memory = Unit {0}
 is_memory pause.Waits = ⊥
 
--- want of memory isn't a wait
+-- running out of memory isn't a wait
 pub no_wait : {A : Type 0} (why : Pause) → why ≡ pause.Memory → why ≡ pause.Waits → A
 unfolding is_memory
 no_wait why memory waits = absurd (subst is_memory (sym memory ∙ waits) tt)
@@ -34,7 +34,7 @@ module _ (state : State) where
       → Leads cells (answers_left state before v) (answers_left state after v) (one v onward) (two v onward)
 
   module _ (bases : List Base) {T : Type 0} (before after : Progress) (answer : Result T Pause) where
-    -- what is handed on as an error is waited for
+    -- an error that is returned is waited for
     pub handed : {Given : Type 0} (part : Valuation → (Given → Act CodeState) → Act CodeState) (value : T → Valuation → Given) (why : Pause)
         → IsErr answer × IsErrAnd answer (λ e. e ≡ why)
         → (why ≡ pause.Waits → (onward : Given → Act CodeState) → WaitsFor bases state before.used after.first (λ v. part v onward))
@@ -54,7 +54,7 @@ module _ (state : State) where
         by_case (Ok made) is = absurd (true≢false (sym is.0))
         by_case (Err e) is = record { through = tt; waits = λ so. waits (sym is.1 ∙ so) }
 
-    -- a part leads to a shorter one, which is carried out
+    -- a part begins with what leads to a shorter part, which is carried out
     pub carries_on : {Given : Type 0} (middle : Progress) (part rest : Valuation → (Given → Act CodeState) → Act CodeState)
         (value : T → Valuation → Given)
         → LeadsTo before.used middle.used part rest → CarriesOut bases state middle after answer rest value

@@ -15,7 +15,7 @@ use Rattle.cs_progress.specs.declared.next.Next.{Next}
 use Rattle.cs_progress.specs.Acting.{UsesAll, Leads, BeginsWith}
 
 module _ (cells : Path → InputKind → Cell) where
-  -- one part after another
+  -- two parts of an act, one after the other
   pub leads_on : (a b c : List ℤ) (one two three : Act CodeState)
       → Leads cells a b one two → Leads cells b c two three → Leads cells a c one three
   leads_on a b c one two three first second uses =
@@ -23,7 +23,7 @@ module _ (cells : Path → InputKind → Cell) where
       let further = second led.1 in
       (led.0 ∙ further.0, further.1)
 
-  -- what stands first after a part stands first before it
+  -- what comes first after a part comes first before it
   pub waits_on : (a b : List ℤ) (one two : Act CodeState) (bases : List Base) (state : State) (valuation : Valuation) (first : Next)
       → Leads cells a b one two → (UsesAll cells b two → BeginsWith bases state valuation first (left_of cells b two))
       → UsesAll cells a one → BeginsWith bases state valuation first (left_of cells a one)
@@ -40,7 +40,7 @@ module _ (cells : Path → InputKind → Cell) where
     subst (λ answers. UsesAll cells answers (Asks at operation onward)) next uses,
   )
 
-  -- an operation stands first where no answer is left
+  -- an operation comes first if no answer remains
   pub asks_first : (answers : List ℤ) (at : Place) (operation : Operation) (onward : ℤ → Act CodeState)
       → answers ≡ [] → left_of cells answers (Asks at operation onward) ≡ Asks at operation onward
   unfolding left_of

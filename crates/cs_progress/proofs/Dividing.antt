@@ -16,7 +16,7 @@ no_size : (z : ℤ) → unsigned_abs z ≡ 0 → z ≡ pos 0
 no_size (pos n) e = ap pos e
 no_size (negsuc n) e = absurd (omega (arith, e))
 
--- a product is less than its factor only where the other factor is 0
+-- a product is less than its factor only if the other factor is 0
 small_product : (d n : ℕ) → d * n < d → n ≡ 0
 small_product d zero h = refl
 small_product d (suc n) h = absurd (omega (arith, h))
@@ -33,7 +33,7 @@ quotient_of a d k e h =
     small_product (unsigned_abs d) (unsigned_abs (k -ℤ q)) (subst (λ n. n < unsigned_abs d) size (rem_below a d h)) in
     omega (arith, ints, no_size (k -ℤ q) none)
 
--- a multiple has no rest
+-- a multiple has no remainder
 pub no_rest : (a d k : ℤ) → a ≡ d *ℤ k → 0 < unsigned_abs d → int_rem a d ≡ pos 0
 no_rest a d k e h =
     let q : int_div a d ≡ k = quotient_of a d k e h in

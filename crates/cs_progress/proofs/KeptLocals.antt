@@ -22,7 +22,7 @@ use Rattle.cs_progress.specs.Operands.{IsDropped, IsReplaced, IsPushed, without_
 use Rattle.cs_progress.specs.Stepping.{StaysInFrame, KeepsLocals, WaitsUnchanged}
 use Rattle.cs_progress.proofs.Carrying.{no_wait}
 
--- other temporaries, and nothing else has changed
+-- only the temporaries have changed
 pub stays : (temporaries : List Temporary) (before after : State) → after ≡ with_temporaries temporaries before → StaysInFrame before after
 stays temporaries before after is = subst (StaysInFrame before) (sym is) (record {
   known = record { model = refl; constraints = refl; counters = refl; asked = refl; phase = refl; blocks = refl };
@@ -55,7 +55,7 @@ module _ (program : TypedProgram) (bases : List Base) (known : ℕ → Bool) whe
       All-weaker (AreIn program bases known state.frame) (IsNamedTemporary bases) (named_locals bases known state.frame.number _) state.frame.temporaries
       have.temporaries
 
-  -- other temporaries, of locals alone
+  -- other temporaries that may be in the frame
   pub locals_kept : (temporaries : List Temporary) (before after : State) → after ≡ with_temporaries temporaries before
       → All (AreIn program bases known before.frame) temporaries → HasLocalsAlone program bases known before → HasLocalsAlone program bases known after
   locals_kept temporaries before after is all have = subst (HasLocalsAlone program bases known) (sym is) (record {
@@ -86,13 +86,13 @@ module _ (program : TypedProgram) (bases : List Base) (known : ℕ → Bool) whe
       (All-push (AreIn program bases known before.frame) (without_newest count before.frame.temporaries) given
       (All-take (AreIn program bases known before.frame) (length before.frame.temporaries - count) before.frame.temporaries have.temporaries) is_in) have
 
--- where a temporary stands in place of some, the frame stays where it is
+-- if one temporary replaces some, the frame keeps its position
 pub replaced_stays : {T : Type 0} (answer : Result T Pause) (count : ℕ) (given : Temporary) (before after : State)
     → OnOk answer (IsReplaced count given before after) → OnOk answer (StaysInFrame before after)
 replaced_stays answer count given before after =
     on_ok_weaker answer (stays (without_newest count before.frame.temporaries ++ given ∷ []) before after)
 
--- and a state of locals alone stays one
+-- and pointers still point to locals only
 pub replaced_keeps : {T : Type 0} (answer : Result T Pause) (count : ℕ) (given : Temporary) (before after : State) → MayAllBeIn before given
     → OnOk answer (IsReplaced count given before after)
     → OnOk answer ((program : TypedProgram) (bases : List Base) (known : ℕ → Bool) → KeepsLocals program bases known before after)

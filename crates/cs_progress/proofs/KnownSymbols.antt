@@ -15,7 +15,7 @@ constant_over known number = λ symbol is. absurd (none-some symbol is)
 pub constant_known : (state : State) (term : Lin) (number : ℤ) → term ≡ constant number → IsOverKnown state term
 constant_known state term number is = λ program bases known have symbol there. absurd (none-some symbol (sym (ap (λ (t : Lin). t.sym) is) ∙ there))
 
--- a term over no other symbol than a known one
+-- a term over no other symbol than a known one is over known symbols
 pub known_symbol : {E : Type 0} (state : State) (term : Lin) (answer : Result Lin E) → IsOverKnown state term
     → IfOk answer (λ made. HasNoOtherSymbol made.sym term.sym) → IfOk answer (IsOverKnown state)
 known_symbol state term answer over same =

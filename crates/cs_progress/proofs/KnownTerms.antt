@@ -20,7 +20,7 @@ value_of-none v term e = ap (λ (o : Option Sym). value_with v o term.slope term
 pub value_of-some : (v : Valuation) (term : Lin) (s : Sym) → term.sym ≡ Some s → value_of v term ≡ function_at term (v s.0)
 value_of-some v term s e = ap (λ (o : Option Sym). value_with v o term.slope term.at term.value) e
 
--- a term over one symbol at most has the value at that symbol's number
+-- the value of a term over at most one symbol, by the symbol's number
 value_of-over : (v : Valuation) (term : Lin) (s : Sym) → HasNoOtherSymbol term.sym (Some s) → value_of v term ≡ value_at term (v s.0)
 value_of-over v term s only = by term.sym only
   where
@@ -34,7 +34,7 @@ pub same_value : (sets : Sets) (range : List Interval) (term other : Lin) (s : S
 same_value sets range term other s e there same v fits =
     value_of-over v other s (λ t is. sym e ∙ same.symbol t is) ∙ same.values (v s.0) (fits s.0 range there) ∙ sym (value_of-some v term s e)
 
--- between the least and the greatest number there is one where the two are equal
+-- if the least and the greatest number are equal, the symbol has only this number
 pub only_number : (range : List Interval) (least greatest x : ℤ) → IsLeast range least → IsGreatest range greatest → least ≡ greatest
     → IsTrue (contains range x) → x ≡ least
 only_number range least greatest x low high same member = omega (arith, ints, low.least x member, high.greatest x member, same)
@@ -59,7 +59,7 @@ symbol_of : (o : Option Sym) → o ≢ None → (s : Sym) × (o ≡ Some s)
 symbol_of None some = absurd (some refl)
 symbol_of (Some s) some = (s, refl)
 
--- the same of what a call answers
+-- the same for the result of a call
 pub same_over : {E : Type 0} (range : List Interval) (term : Lin) (result : Result Lin E) → term.sym ≢ None
     → IfOk result (λ made. made.sym ≡ term.sym)
     → IfOk result (λ made. (number : ℤ) → function_at made number ≡ function_at term number) → IfOk result (IsSameOver range term)
@@ -69,7 +69,7 @@ same_over range term (Err error) some symbol same = tt
 int_eq-no : (x y : ℤ) → (x ≡ y → ⊥) → int_eq x y ≡ false
 int_eq-no x y differ = Prim.grind (arith, ints)
 
--- where no number of the symbol gives the term a value, no valuation does
+-- if the term has a value for no number of its symbol, it has it under no valuation
 pub never : (sets : Sets) (range : List Interval) (term : Lin) (s : Sym) (number : ℤ) → term.sym ≡ Some s → set_of sets s.0 ≡ Some range
     → ((x : ℤ) → IsTrue (contains range x) → function_at term x ≡ number → ⊥) → IsTruthOfValue sets term number (Some false)
 never sets range term s number e there none v fits =

@@ -1,4 +1,4 @@
--- Items of lists by their places.
+-- Items of lists by their indices.
 use Rattle.std.proofs.Common.{◌≡◌, ◌⊎◌, inl, inr, ℕ, zero, suc, List, [], ◌∷◌, ◌++◌, Some, length, slice_get, get_or, take, drop}
 use Rattle.std.proofs.Common.{reverse}
 use Rattle.std.proofs.Common.{Contains, ◌+◌, ◌<◌, refl, sym, ap, ◌∙◌, arith}
@@ -6,7 +6,7 @@ use Rattle.std.proofs.Math.Seq.{drop-append_seam}
 use Rattle.std.proofs.lemmas.List.{take-append-drop, take_more, length-drop, length-reverse, reverse-append}
 use Rattle.std.proofs.lemmas.Option.{none-some, same_Some, slice_get_within, get_or_from_slice_get}
 
--- an item of a list with one more is one of the list's, or the last
+-- an item of a list with one more is one of the list, or the last one
 pub item_of_more : {A : Type 0} (xs : List A) (x y : A) (n : ℕ) → slice_get (xs ++ x ∷ []) n ≡ Some y
     → (slice_get xs n ≡ Some y) ⊎ ((n ≡ length xs) × (y ≡ x))
 item_of_more [] x y zero e = inr (refl, sym (same_Some x y e))
@@ -14,7 +14,7 @@ item_of_more [] x y (suc n) e = absurd (none-some y e)
 item_of_more (z ∷ xs) x y zero e = inl e
 item_of_more (z ∷ xs) x y (suc n) e = elim (item_of_more xs x y n e) [ inl h ↦ inl h | inr h ↦ inr (ap suc h.0, h.1) ]
 
--- an item at a place is one of the list
+-- an item at an index is one of the list
 pub item_is_there : {A : Type 0} (xs : List A) (n : ℕ) (x : A) → slice_get xs n ≡ Some x → Contains xs x
 item_is_there xs n x e = (n, slice_get_within xs n x e, get_or_from_slice_get xs n x x e)
 
@@ -22,7 +22,7 @@ pub more_items : {A : Type 0} (xs : List A) (x : A) (n : ℕ) → length xs ≡ 
 more_items [] x n e = ap suc e ∙ omega arith
 more_items (z ∷ xs) x n e = omega (arith, more_items xs x (length xs) refl, e)
 
--- the first items of a list are the last ones of it turned round
+-- the first items of a list are the last ones of its reverse
 pub first_last : {A : Type 0} (xs : List A) (left count : ℕ) → left + count ≡ length xs → reverse (take left xs) ≡ drop count (reverse xs)
 first_last {A} xs left count e =
     let rest : List A = reverse (drop left xs) in
@@ -38,7 +38,7 @@ begins_at [] zs (suc n) x e = absurd (cc)
 begins_at (y ∷ ys) zs zero x e = ap (λ (l : List _). slice_get l 0) e
 begins_at (y ∷ ys) zs (suc n) x e = begins_at ys zs n x e
 
--- an item by its place from the end
+-- an item by its index from the end
 pub from_last : {A : Type 0} (xs : List A) (place age : ℕ) (d : A) → place + (age + 1) ≡ length xs
     → slice_get (reverse xs) age ≡ Some (get_or xs place d)
 from_last xs place age d e =

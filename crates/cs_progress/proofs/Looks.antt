@@ -28,7 +28,7 @@ pub look_inside : (base : Option Base) (offset : ℤ) (at : Place) (act : Act Co
 look_inside None offset at act named = absurd (named refl)
 look_inside (Some base) offset at act named = refl
 
--- a start block is null where it isn't there
+-- a start block is null exactly if it doesn't exist
 look_start : (there : Bool) (base : Option Base) (offset : ℤ) (at : Place) (act : Act CodeState) → base ≢ None
     → access.look at (if there then pointer_to base offset else NullCell) act ≡ access.shows_then at (label.Look there) act
 look_start true base offset at act named = look_inside base offset at act named
@@ -47,11 +47,11 @@ look_block blocks number block base offset at act v there named =
     itself = omega (arith, ints)
 
 module _ (cells : Path → InputKind → Cell) where
-  -- nothing shows
+  -- an act without an event
   pub leads_same : (answers : List ℤ) (one act : Act CodeState) → one ≡ act → Leads cells answers answers one act
   leads_same answers one act same uses = (ap (left_of cells answers) same, subst (UsesAll cells answers) same uses)
 
-  -- what shows is answered by the next answer
+  -- the event is answered by the next answer
   pub leads_shown : (before after : List ℤ) (number : ℤ) (at : Place) (what : Label) (one act : Act CodeState)
       → one ≡ access.shows_then at what act → before ≡ number ∷ after → Leads cells before after one act
   unfolding left_of UsesAll
@@ -61,13 +61,13 @@ module _ (cells : Path → InputKind → Cell) where
         (subst (UsesAll cells before) same uses),
   )
 
-  -- what shows stands first where no answer is left
+  -- the event comes first if no answer remains
   pub stands_first : (answers : List ℤ) (at : Place) (what : Label) (one act : Act CodeState) → one ≡ access.shows_then at what act
       → answers ≡ [] → left_of cells answers one ≡ access.shows_then at what act
   unfolding left_of
   stands_first answers at what one act same none = λ i. left_of cells (none i) (same i)
 
--- an error that is handed on
+-- an error that is returned
 pub err_given : {T E : Type 0} (r : Result T E) (given : E) (Q : E → Type 0) → IsErr r × IsErrAnd r (λ e. e ≡ given) → Q given → IfErr r Q
 err_given (Ok x) given Q h q = tt
 err_given (Err e) given Q h q = subst Q (sym h.1) q

@@ -10,7 +10,7 @@ use Rattle.cs_state.specs.Cells.{object_of}
 use Rattle.cs_state.specs.Objects.{number_of}
 use Rattle.cs_state.proofs.Numbers.{number_here, number_of_object}
 
--- a base region alone has one number
+-- the only base region has one number
 one_alone : (base : Base) → IsNumbered (base ∷ [])
 one_alone base it zero zero first second = refl
 one_alone base it (suc j) k first second = absurd (true≢false (ap is_some (sym first)))
@@ -24,7 +24,7 @@ same_itself base = by (same_object (object_of base) (object_of base)) (number_he
     by true e = refl
     by false e = absurd (true≢false (sym (ap is_some e)))
 
--- an object that is tested to be the same is the same
+-- objects that are the same by their test are equal
 pub same_objects : (one : Object) (other : Base) → same_object one (object_of other) ≡ true → object_of other ≡ one
 same_objects one other same =
     let found : number_of (other ∷ []) one ≡ Some 0 = ap (λ (t : Bool). cond {A = Option ℕ} t (Some 0) None) same in

@@ -12,7 +12,7 @@ use Rattle.cs_state.specs.declared.block.Block.{Block}
 use Rattle.cs_state.specs.Cells.{Blocks, block_of, is_there, pointer_to}
 use Rattle.cs_progress.specs.Known.{IsTruthOfValue}
 
--- whether a block is there is whether its symbol's number isn't 0
+-- a block exists exactly if its symbol's number isn't 0
 block_there : (sets : Sets) (blocks : Blocks) (base : ℕ) (block : Block) (zero : Bool) → block_of blocks base ≡ Some block
     → IsTruthOfValue sets (symbol_term block.sym) (pos 0) (Some zero) → (v : Valuation) → Fits v sets
     → is_there v (block_of blocks base) ≡ not zero

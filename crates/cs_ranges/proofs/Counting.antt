@@ -11,7 +11,7 @@ use Rattle.cs_ranges.specs.Interval.{in_interval}
 use Rattle.cs_ranges.specs.RangeSet.{contains, IsSpread, IsSpreadFrom, IsCount}
 use Rattle.cs_ranges.proofs.Members.{in_interval_yields, contains-nil, contains-cons}
 
--- so many numbers, one after the other from x on
+-- this many numbers, one after the other from x
 unfoldable pub numbers_from : ℤ → ℕ → List ℤ
 numbers_from x zero = []
 numbers_from x (suc n) = x ∷ numbers_from (x +ℤ pos 1) n

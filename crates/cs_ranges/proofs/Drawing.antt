@@ -12,7 +12,7 @@ use Rattle.cs_ranges.proofs.Lines.{over_yields}
 use Rattle.cs_ranges.proofs.Members.{in_interval_yields, in_interval-low, in_interval-none, contains-nil, contains-cons, or-false}
 use Rattle.cs_ranges.proofs.Spread.{IsSpreadFrom-weaker, contains-from, last_low_or-nil}
 
--- where the line has a value in the whole set, it was found already or has one in the rest, and there after what was found
+-- the numbers at which the line has a value in the whole set were found already or are those for the rest, which come after those found
 pub record Draws (line : Line) (whole found rest : List Interval) : Type 0 where
   pub spread : IsSpread rest
   pub following : (s : ℤ) → is_over line s ≡ true → contains rest (value_of line s) ≡ true → last_low found ≤ℤ s
@@ -44,7 +44,7 @@ over_interval line i j s h t =
     let within : (j.low ≤ℤ s) × (s ≤ℤ j.high) = grind (arith, in_interval_yields j s) in
     is_over-within line s (omega (arith, ints, h.from, within.0)) (omega (arith, ints, h.upto, within.1))
 
--- the numbers lie inside the bounds
+-- the numbers are inside the bounds
 pub IsProper-numbers : (line : Line) (i j : Interval) → IsPreimage line i j → j.low ≤ℤ j.high → IsProper j
 IsProper-numbers line i j h le = record {
   from = omega (arith, ints, h.from, line.over);

@@ -16,7 +16,7 @@ IsLeast-first (i ∷ s) d lt h = record {
   least = λ y t. contains-from i.low (i ∷ s) y (omega (arith, ints), h.1, h.2, h.3) t;
 }
 
--- of a list that ends with the interval
+-- the greatest number of a list that ends with the interval
 IsGreatest-push : (s : List Interval) (i : Interval) → IsSpread (s ++ i ∷ []) → IsGreatest (s ++ i ∷ []) i.high
 IsGreatest-push s i h =
     let last = IsSpreadFrom-last _ s i h in

@@ -8,7 +8,7 @@ use Rattle.cs_ranges.specs.RangeSet.{contains, IsSpread, IsSpreadFrom, last_low}
 use Rattle.cs_ranges.proofs.Members.{in_interval_yields, contains-nil, contains-cons}
 use Rattle.cs_ranges.proofs.Spread.{IsSpreadFrom-weaker, contains-from, last_low_or-nil}
 
--- below the number the gaps have what the whole set hasn't, and from the number on the rest is left of the whole set
+-- below the number the gaps have what the whole set doesn't have, and from the number on the rest is the whole set
 pub record Splits (whole gaps : List Interval) (next : ℤ) (rest : List Interval) : Type 0 where
   pub from : neg_ℤ (pos (2 ^ 126)) ≤ℤ next
   pub upto : next ≤ℤ pos (2 ^ 126 + 1)
@@ -41,7 +41,7 @@ no_gap true r i next n x h e le k = refl
 no_gap false true i next n x h e le k = grind (arith, ints, in_interval_yields i x, h refl)
 no_gap false false i next n x h e le k = grind (arith, ints, in_interval_yields i x)
 
--- one interval on, with a gap before it
+-- one interval further, with a gap before it
 pub Splits-gap : (whole gaps : List Interval) (next n : ℤ) (i j : Interval) (new rest : List Interval) → Splits whole gaps next (i ∷ rest)
     → ((x : ℤ) → contains new x ≡ (contains gaps x || in_interval j x)) → last_low new ≤ℤ next → next <ℤ i.low → j.low ≡ next
     → j.high ≡ i.low -ℤ pos 1 → n ≡ i.high +ℤ pos 1 → Splits whole new n rest
@@ -58,7 +58,7 @@ Splits-gap whole gaps next n i j new rest h members last lt e f k =
           ∙ h.members x inside;
     }
 
--- one interval on, with no gap before it
+-- one interval further, without a gap before it
 pub Splits-no_gap : (whole gaps : List Interval) (next n : ℤ) (i : Interval) (rest : List Interval) → Splits whole gaps next (i ∷ rest)
     → i.low ≤ℤ next → n ≡ i.high +ℤ pos 1 → Splits whole gaps n rest
 Splits-no_gap whole gaps next n i rest h ge k =
@@ -91,7 +91,7 @@ Splits-last_gap whole gaps next j new h members e f x inside =
     members x ∙ last_gap (contains gaps x) j next x inside e f
     ∙ ap (λ b. contains gaps x || (int_le next x && not b)) (sym (contains-nil x)) ∙ h.members x inside
 
--- after the last interval, with no gap up to 2^126
+-- after the last interval, without a gap up to 2^126
 pub Splits-no_last_gap : (whole gaps : List Interval) (next : ℤ) → Splits whole gaps next [] → pos (2 ^ 126) <ℤ next → (x : ℤ) → IsInside x
     → contains gaps x ≡ not (contains whole x)
 Splits-no_last_gap whole gaps next h lt x inside =

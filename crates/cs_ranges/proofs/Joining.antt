@@ -15,7 +15,7 @@ from_low bound n i rest h le = (le, h.1, h.2, h.3)
 from_rest : (bound n : ℤ) (i : Interval) (rest : List Interval) → IsSpreadFrom bound (i ∷ rest) → n ≤ℤ i.low → IsSpreadFrom n rest
 from_rest bound n i rest h le = IsSpreadFrom-weaker _ n rest (omega (arith, ints, h.1)) h.3
 
--- what both sets have together is found already or in the rest, which lies after what was found
+-- the union of both sets is found already or in the rest, which comes after what was found
 pub record Adds (one other found rest : List Interval) : Type 0 where
   pub spread : IsSpread rest
   pub following : IsSpreadFrom (last_low found) rest
@@ -33,7 +33,7 @@ Adds-more one other found new rest i h members last = record {
       ∙ h.members x;
 }
 
--- nothing is left
+-- nothing remains
 pub Adds-end : (one other found rest : List Interval) → Adds one other found rest → rest ≡ []
     → (x : ℤ) → contains found x ≡ (contains one x || contains other x)
 Adds-end one other found rest h e x =
@@ -95,7 +95,7 @@ Joins-right one other found new left right a b h le members last = record {
       ∙ h.members x;
 }
 
--- both rests are added, of which one is used up
+-- both rests are added, one of which is empty
 pub Joins-end : (one other found more all left right : List Interval) → Joins one other found left right
     → ((x : ℤ) → contains more x ≡ (contains found x || contains left x)) → ((x : ℤ) → contains all x ≡ (contains more x || contains right x))
     → (x : ℤ) → contains all x ≡ (contains one x || contains other x)
@@ -103,7 +103,7 @@ Joins-end one other found more all left right h with_left with_right x =
     with_right x ∙ ap (λ t. t || contains right x) (with_left x)
     ∙ sym (or_assoc (contains found x) (contains left x) (contains right x)) ∙ h.members x
 
--- the right rest lies after what was found and the left rest
+-- the right rest comes after what was found and after the left rest
 pub Joins-following : (one other found more left right : List Interval) → Joins one other found left right → (left ≡ [] → more ≡ found)
     → (left ≡ []) ⊎ (right ≡ []) → IsSpreadFrom (last_low more) right
 Joins-following one other found more left right h kept used = elim used [

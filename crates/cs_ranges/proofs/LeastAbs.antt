@@ -10,7 +10,7 @@ use Rattle.cs_ranges.proofs.Members.{contains-push, contains-single}
 IsNearest-trans : (x y z : ℤ) → IsNearest x y → IsNearest y z → IsNearest x z
 IsNearest-trans x y z p q = grind (arith, ints)
 
--- of the first interval
+-- for the first interval
 pub IsLeastAbs-first : (i : Interval) (x : ℤ) → in_interval i x ≡ true → ((y : ℤ) → in_interval i y ≡ true → IsNearest x y)
     → IsLeastAbs (i ∷ []) x
 IsLeastAbs-first i x h near = record {
@@ -18,7 +18,7 @@ IsLeastAbs-first i x h near = record {
   nearest = λ y t. near y (sym (contains-single i y) ∙ t);
 }
 
--- of one interval more: r is the nearer of found and x
+-- for one interval more: r is the nearer one of found and x
 pub IsLeastAbs-push : (s : List Interval) (i : Interval) (found x r : ℤ) → IsLeastAbs s found → in_interval i x ≡ true
     → ((y : ℤ) → in_interval i y ≡ true → IsNearest x y) → (r ≡ found) ⊎ (r ≡ x) → IsNearest r found → IsNearest r x
     → IsLeastAbs (s ++ i ∷ []) r

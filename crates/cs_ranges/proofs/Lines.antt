@@ -7,11 +7,11 @@ use Rattle.std.proofs.lemmas.Int.{ints, by_lt_z}
 use Rattle.cs_ranges.specs.Affine.{affine}
 use Rattle.cs_ranges.proofs.AffineLaws.{affine-affine, affine-neg_ℤ}
 
--- the test of a range, with what it shows
+-- the test of a range, and the two comparisons that it implies
 pub over_yields : (x y s : ℤ) → (int_le x s && int_le s y) ≡ true → (x ≤ℤ s) × (s ≤ℤ y)
 over_yields x y s h = (grind (arith, ints), grind (arith, ints))
 
--- the value so many steps after the first number
+-- the value this many steps after the first number
 affine-steps : (k : ℕ) (first start s : ℤ) → first ≤ℤ s → affine (pos k) first start s ≡ start +ℤ pos (k * unsigned_abs (s -ℤ first))
 affine-steps k first start s le =
     let steps : s -ℤ first ≡ pos (unsigned_abs (s -ℤ first)) = omega (arith, ints) in
@@ -28,7 +28,7 @@ affine-rises : (k : ℕ) (at value s t : ℤ) → s ≤ℤ t → affine (pos k) 
 affine-rises k at value s t le =
     omega (arith, ints, affine-steps k s (affine (pos k) at value s) t le, affine-affine (pos k) at value s t)
 
--- between two numbers an affine function keeps to the bounds of its values at both
+-- between two numbers an affine function is within the bounds of its values at both
 pub affine-between : (low high slope at value first last x : ℤ) → first ≤ℤ x → x ≤ℤ last
     → (low ≤ℤ affine slope at value first) × (affine slope at value first ≤ℤ high)
     → (low ≤ℤ affine slope at value last) × (affine slope at value last ≤ℤ high)
@@ -60,13 +60,13 @@ int_le-same a b c d below above = by_lt_z b a
     (λ lt. int_le-false a b lt ∙ sym (int_le-false c d (above lt)))
     (λ le. int_le-true a b le ∙ sym (int_le-true c d (below le)))
 
--- a line that goes from one number to a greater one rises
+-- a line that rises between two numbers has a positive slope
 pub slope_positive : (k : ℕ) (first last start end : ℤ) → end ≡ affine (pos k) first start last → first ≤ℤ last → start <ℤ end → 0 < k
 slope_positive zero first last start end e le lt =
     absurd (omega (arith, ints, affine-steps 0 first start last le))
 slope_positive (suc k) first last start end e le lt = omega arith
 
--- the line comes to `low` one step after those in which it rises by less
+-- the line reaches `low` one step after those in which it rises by less
 pub reaches_low : (k m : ℕ) (first start low s : ℤ) → 0 < k → low ≡ (start +ℤ pos m) +ℤ pos 1 → first ≤ℤ s
     → int_le low (affine (pos k) first start s) ≡ int_le ((first +ℤ pos (m / k)) +ℤ pos 1) s
 reaches_low k m first start low s k_pos e from =
@@ -79,7 +79,7 @@ reaches_low k m first start low s k_pos e from =
     let few : m / k < u → ⊥ = λ enough. absurd (omega (arith, ints, both.0 enough)) in
     omega (arith, ints, few))
 
--- up to `high` the line has the steps in which it rises no more
+-- the line is at most `high` in the steps in which it rises no further
 pub stays_high : (k m : ℕ) (first start high s : ℤ) → 0 < k → high ≡ start +ℤ pos m → first ≤ℤ s
     → int_le (affine (pos k) first start s) high ≡ int_le s (first +ℤ pos (m / k))
 stays_high k m first start high s k_pos e from =
@@ -98,7 +98,7 @@ always_low k first start low s le from =
     let reached : low ≤ℤ affine (pos k) first start s = omega (arith, ints, affine-steps k first start s from) in
     int_le-true _ _ reached ∙ sym (int_le-true _ _ from)
 
--- the line never comes to `low`
+-- the line never reaches `low`
 pub never_low : (k : ℕ) (first last start end low s : ℤ) → end ≡ affine (pos k) first start last → end <ℤ low → first ≤ℤ s → s ≤ℤ last
     → int_le low (affine (pos k) first start s) ≡ int_le (last +ℤ pos 1) s
 never_low k first last start end low s e lt from upto =

@@ -10,7 +10,7 @@ use Rattle.cs_ranges.specs.RangeSet.{contains, IsSpread, IsSpreadFrom, last_low}
 use Rattle.cs_ranges.proofs.Members.{in_interval_yields, contains-nil, contains-cons, or-false}
 use Rattle.cs_ranges.proofs.Spread.{IsSpreadFrom-weaker, contains-from, last_low_or-nil}
 
--- what both whole sets have is found already or is in the rests of both, which lie after what was found
+-- what both whole sets have is found already or is in the rests of both, which come after what was found
 pub record Meets (one other found left right : List Interval) : Type 0 where
   pub left_spread : IsSpread left
   pub right_spread : IsSpread right
@@ -25,7 +25,7 @@ Meets-start one other h k = record {
   members = λ x. rw contains-nil;
 }
 
--- nothing more is common once one rest is used up
+-- nothing more is common once one rest is empty
 pub Meets-end : (one other found left right : List Interval) → Meets one other found left right → (left ≡ []) ⊎ (right ≡ [])
     → (x : ℤ) → contains found x ≡ (contains one x && contains other x)
 Meets-end one other found left right h e x =
@@ -52,7 +52,7 @@ right_first false false true a b x h lt = grind (arith, ints, in_interval_yields
 right_first false true false a b x h lt = grind (arith, ints, in_interval_yields a x, in_interval_yields b x, h refl)
 right_first false false false a b x h lt = grind (arith, ints, in_interval_yields a x, in_interval_yields b x)
 
--- an interval with the rest after it is spread from where it begins, and the rest from after its end
+-- an interval with the rest after it is spread from its beginning, and the rest from after its end
 from_low : (bound n : ℤ) (i : Interval) (rest : List Interval) → IsSpreadFrom bound (i ∷ rest) → n ≤ℤ i.low → IsSpreadFrom n (i ∷ rest)
 from_low bound n i rest h le = (le, h.1, h.2, h.3)
 

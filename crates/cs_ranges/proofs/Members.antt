@@ -7,7 +7,7 @@ use Rattle.cs_ranges.specs.declared.range_set.Interval.{Interval}
 use Rattle.cs_ranges.specs.Interval.{in_interval}
 use Rattle.cs_ranges.specs.RangeSet.{contains}
 
--- the test of an interval, with what it shows
+-- the test of an interval, and the two comparisons that it implies
 pub in_interval_yields : (i : Interval) (x : ℤ) → ((in_interval i x ≡ true) × (i.low ≤ℤ x) × (x ≤ℤ i.high))
     ⊎ ((in_interval i x ≡ false) × ((x <ℤ i.low) ⊎ (i.high <ℤ x)))
 unfolding in_interval
@@ -20,7 +20,7 @@ in_interval-low i h = grind (arith, ints, in_interval_yields i i.low)
 pub in_interval-high : (i : Interval) → i.low ≤ℤ i.high → in_interval i i.high ≡ true
 in_interval-high i h = grind (arith, ints, in_interval_yields i i.high)
 
--- an interval whose ends are turned round has no number
+-- an interval whose low end is above its high end has no number
 pub in_interval-none : (i : Interval) (x : ℤ) → i.high <ℤ i.low → in_interval i x ≡ false
 in_interval-none i x h = grind (arith, ints, in_interval_yields i x)
 

@@ -9,7 +9,7 @@ use Rattle.cs_ranges.specs.RangeSet.{contains, IsSpread, last_low}
 use Rattle.cs_ranges.proofs.Members.{in_interval_yields, contains-nil, in_interval-high, contains-push, or-false}
 use Rattle.cs_ranges.proofs.Spread.{IsSpreadFrom-last, contains-before_last, IsInside-member, last_low_or-nil}
 
--- the negatives of the whole set are found already or are those of the rest, which lie above what was found
+-- the negatives of the whole set are found already or are those of the rest, which are above what was found
 pub record Mirrors (whole found rest : List Interval) : Type 0 where
   pub spread : IsSpread rest
   pub following : (x : ℤ) → contains rest x ≡ true → last_low found ≤ℤ neg_ℤ x
@@ -32,7 +32,7 @@ or_swap false true false = refl
 or_swap false false true = refl
 or_swap false false false = refl
 
--- the last interval of the rest is turned round
+-- the last interval of the rest is negated
 pub Mirrors-more : (whole found new rest : List Interval) (i j : Interval) → Mirrors whole found (rest ++ i ∷ []) → j.low ≡ neg_ℤ i.high
     → j.high ≡ neg_ℤ i.low → ((x : ℤ) → contains new x ≡ (contains found x || in_interval j x)) → last_low new ≤ℤ j.low
     → Mirrors whole new rest
@@ -52,7 +52,7 @@ pub Mirrors-end : (whole found rest : List Interval) → Mirrors whole found res
 Mirrors-end whole found rest h e x =
     sym (ap (λ b. contains found x || b) (ap (λ l. contains l (neg_ℤ x)) e ∙ contains-nil (neg_ℤ x)) ∙ or-false _) ∙ h.members x
 
--- where the last interval of the rest goes
+-- the position of the last interval of the rest
 pub Mirrors-following : (whole found rest : List Interval) (i : Interval) → Mirrors whole found (rest ++ i ∷ []) → last_low found ≤ℤ neg_ℤ i.high
 Mirrors-following whole found rest i h =
     h.following i.high (contains-push rest i i.high ∙ or_right _ _ (in_interval-high i (IsSpreadFrom-last _ rest i h.spread).2))

@@ -15,7 +15,7 @@ IsSpreadFrom-weaker b c (i ∷ s) le h = (omega (arith, ints, h.0), h.1, h.2, h.
 pub IsProper-first : (i : Interval) (s : List Interval) → IsSpread (i ∷ s) → IsProper i
 IsProper-first i s h = record { from = h.0; ordered = h.1; upto = h.2 }
 
--- no number below the bound is there
+-- no number below the bound is in the list
 pub contains-below : (b : ℤ) (s : List Interval) (x : ℤ) → IsSpreadFrom b s → x <ℤ b → contains s x ≡ false
 unfolding contains
 contains-below b [] x h lt = refl
@@ -26,7 +26,7 @@ contains-below b (i ∷ s) x h lt =
 pub contains-from : (b : ℤ) (s : List Interval) (x : ℤ) → IsSpreadFrom b s → contains s x ≡ true → b ≤ℤ x
 contains-from b s x h t = by_lt_z x b (λ lt. absurd (both_ways _ (contains-below b s x h lt) t)) (λ ge. ge)
 
--- no number above 2^126 is there
+-- no number above 2^126 is in the list
 pub contains-above : (b : ℤ) (s : List Interval) (x : ℤ) → IsSpreadFrom b s → pos (2 ^ 126) <ℤ x → contains s x ≡ false
 unfolding contains
 contains-above b [] x h lt = refl
@@ -34,7 +34,7 @@ contains-above b (i ∷ s) x h lt =
     let out : in_interval i x ≡ false = grind (arith, ints, h.2, in_interval_yields i x) in
     or_from _ _ out (contains-above (i.high +ℤ pos 2) s x h.3 lt)
 
--- the interval at an index has a number, and lies inside the bounds
+-- the interval at an index has a number, and is inside the bounds
 pub IsSpreadFrom-at : (b : ℤ) (s : List Interval) (k : ℕ) (d : Interval) → IsSpreadFrom b s → k < length s
     → (b ≤ℤ (get_or s k d).low) × ((get_or s k d).low ≤ℤ (get_or s k d).high) × ((get_or s k d).high ≤ℤ pos (2 ^ 126))
 IsSpreadFrom-at b [] k d h lt = absurd (not-suc-le-zero lt)
@@ -43,7 +43,7 @@ IsSpreadFrom-at b (i ∷ s) (suc k) d h lt =
     let at = IsSpreadFrom-at (i.high +ℤ pos 2) s k d h.3 (le_of_suc-le-suc lt) in
     (omega (arith, ints, at.0, h.0, h.1), at.1, at.2)
 
--- what is known of the last interval
+-- the last interval has a number, and is inside the bounds
 pub IsSpreadFrom-last : (b : ℤ) (s : List Interval) (i : Interval) → IsSpreadFrom b (s ++ i ∷ [])
     → IsSpreadFrom b s × (b ≤ℤ i.low) × (i.low ≤ℤ i.high) × (i.high ≤ℤ pos (2 ^ 126))
 IsSpreadFrom-last b [] i h = (tt, h.0, h.1, h.2)
@@ -56,7 +56,7 @@ IsProper-last s i h =
     let last = IsSpreadFrom-last _ s i h in
     record { from = last.1; ordered = last.2; upto = last.3 }
 
--- the numbers before the last interval lie below it, with a gap
+-- the numbers before the last interval are below it, with a gap
 pub contains-before_last : (b : ℤ) (s : List Interval) (i : Interval) (x : ℤ) → IsSpreadFrom b (s ++ i ∷ []) → contains s x ≡ true
     → (x +ℤ pos 2) ≤ℤ i.low
 contains-before_last b [] i x h t = absurd (both_ways _ (contains-nil x) t)
@@ -92,7 +92,7 @@ unfolding last_low_or
 last_low_or-push x [] i = refl
 last_low_or-push x (j ∷ s) i = last_low_or-push j.low s i
 
--- the numbers of a spread list lie inside the bounds
+-- the numbers of a spread list are inside the bounds
 pub IsInside-member : (s : List Interval) (x : ℤ) → IsSpread s → contains s x ≡ true → IsInside x
 IsInside-member s x h t = (
   contains-from _ s x h t,
@@ -103,7 +103,7 @@ and_when : (a b c : Bool) → (a ≡ true → b ≡ c) → (a && b) ≡ (a && c)
 and_when true b c h = h refl
 and_when false b c h = refl
 
--- a set without another one is what it has in common with the numbers inside the bounds that the other one hasn't
+-- the difference of two sets is the intersection of the one with all numbers inside the bounds that the other doesn't have
 pub minus-by_complement : (one other rest : List Interval) → IsSpread one → ((x : ℤ) → IsInside x → contains rest x ≡ not (contains other x))
     → (x : ℤ) → (contains one x && contains rest x) ≡ (contains one x && not (contains other x))
 minus-by_complement one other rest h complement x =

@@ -8,7 +8,7 @@ use Rattle.std.proofs.lemmas.List.Elements.{Contains-append_right, Contains-get_
 use Rattle.indexmap.specs.IndexMap.{insert_entry}
 
 module _ {K : Type 0} where
-  -- the keys stay where the key is among them, and else it goes after the last
+  -- the keys are the same if they contain this one, and otherwise it is added at the end
   abbrev Seen : List K → K → List K → Type 0
   Seen before k after = (Contains before k × (after ≡ before)) ⊎ ((Contains before k → ⊥) × (after ≡ before ++ k ∷ []))
 
@@ -36,7 +36,7 @@ module _ {K : Type 0} (eq : K → K → Bool) (reflexive : (x : K) → eq x x �
         | inr following ↦ none following
       ]
 
-  -- a key stands at one place
+  -- a key has only one index
   pub one_place : (ks : List K) → IsDistinct eq ks → (x : K) (i j : ℕ) → slice_get ks i ≡ Some x → slice_get ks j ≡ Some x → i ≡ j
   unfolding IsDistinct
   one_place [] d x i j p q = absurd (none-some x p)
@@ -46,7 +46,7 @@ module _ {K : Type 0} (eq : K → K → Bool) (reflexive : (x : K) → eq x x �
   one_place (y ∷ ks) d x (suc i) (suc j) p q = ap suc (one_place ks d.1 x i j p q)
 
 module _ {K V : Type 0} (eq : K → K → Bool) (reflexive : (x : K) → eq x x ≡ true) (same : (x y : K) → eq x y ≡ true → x ≡ y) where
-  -- what was inserted stands at its place
+  -- what was inserted is at its index
   pub get_inserted : (es : List (K × V)) (k : K) (v : V) → slice_get (keys_of (insert_entry eq es k v)) (position_or_len (eq k) (keys_of es)) ≡ Some k
   get_inserted [] k v = refl
   get_inserted (e ∷ es) k v = by (eq k e.0) refl (get_inserted es k v)

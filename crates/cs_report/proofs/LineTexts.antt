@@ -31,7 +31,7 @@ pub text_of-map : {X : Type 0} (f : X → List ℕ) (xs : List X) → text_of (m
 text_of-map f [] = refl
 text_of-map f (x ∷ xs) = ap (λ (t : List ℕ). (f x ++ codes "\n") ++ t) (text_of-map f xs)
 
--- ---- two pieces that were printed one after another
+-- ---- two pieces that were printed one after the other
 pub two_pieces : {E : Type 0} (r : Result (Unit {0}) E) (text first second a b whole : List ℕ) → first ≡ text ++ a → OnOk r (second ≡ first ++ b)
     → whole ≡ a ++ b → OnOk r (second ≡ text ++ whole)
 two_pieces (Ok x) text first second a b whole one two is = rw (two, one, is) (append_assoc text a b)

@@ -41,7 +41,7 @@ module _ (code : Code) (bases : List Base) (state : State) (v : Valuation) where
   begins_in (next.Checks at checked) act begins = begins
   begins_in (next.Ends outcome) act begins = ends_short outcome act begins.0 begins.1
 
--- what is waited for stands first: it isn't that the operation is done
+-- what is waited for comes first: the operation isn't done
 pub waits_first : (code : Code) (names : Naming) (program : TypedProgram) (budgets : RunBudgets) (before after : State) (first : Next) (v : Valuation)
     → Fits v before.constraints → ((cells : Path → InputKind → Cell) → UsesAnswers code names program budgets cells before v)
     → Waits code names program budgets before after first → Steps code names program budgets before after first
@@ -54,7 +54,7 @@ waits_first code names program budgets before after (next.Reaches at base offset
 waits_first code names program budgets before after (next.Checks at checked) v fits uses waits = waits
 waits_first code names program budgets before after (next.Ends outcome) v fits uses waits = waits
 
--- what becomes of a state in each state of locals alone, by the step at its spot
+-- the successor of a state whose pointers only point to locals, by the step at its spot
 module _ (code : Code) (model : DataModel) (budgets : RunBudgets) (given : Naming) (before after : State) (earlier later : Progress)
     (fresh : earlier.used ≡ 0) where
   pub done_steps : {T : Type 0} (final : State) (done : T) → final ≡ with_answers [] after

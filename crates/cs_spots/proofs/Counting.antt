@@ -57,11 +57,11 @@ module _ (code : Code) (names : Naming) (program : TypedProgram) (known : ℕ �
       found_so todo v (Some count) is
       ∙ ap (λ (less : Bool). if less then Touches (Meets kind at) (Goes (with_visits counted_point (count + 1) (run todo v))) else Stops (Over Visits at)) so
 
-  -- a counted point without a count is over
+  -- a counted point without a count is over its budget
   pub none_over : slice_get before.frame.visits counted_point ≡ None → (todo : Point) (v : Valuation) → reaches (run todo v) ≡ Stops (Over Visits at)
   none_over is todo v = found_so todo v None is
 
-  -- and one that was reached as often as it may be
+  -- and so is one that was reached as often as it may be
   pub full_over : (count : ℕ) → slice_get before.frame.visits counted_point ≡ Some count → budgets.visits ≤ count
       → (todo : Point) (v : Valuation) → reaches (run todo v) ≡ Stops (Over Visits at)
   full_over count is full todo v =
@@ -128,7 +128,7 @@ module _ (code : Code) (names : Naming) (program : TypedProgram) (known : ℕ �
       read = have.read;
     })
 
-    -- the counted point is reached, and the frame goes on
+    -- the counted point is reached, and the frame continues
     pub point_reached : {T : Type 0} (progress : Progress) (final : State) (answer : Result T Pause) → HasLocalsAlone program names.bases known before
         → OnOk answer (IsMovedOn code middle final) → IfErr answer (λ why. why ≡ pause.Memory)
         → WorksOn code names program known before final progress progress answer reaches

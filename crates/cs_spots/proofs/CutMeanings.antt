@@ -21,19 +21,19 @@ use Rattle.cs_state.specs.Writes.{with_temporaries}
 use Rattle.cs_progress.specs.Stepping.{IsCutTo, IsCutForEnd, IsCutFor}
 use Rattle.cs_progress.proofs.OperandsMean.{dropped}
 
--- what is cut has no more to cut
+-- cutting twice is cutting once
 pub cut_once : (number : ℕ) (before after : State) → IsCutTo number before after → IsCutTo number after after
 cut_once number before after is =
     subst (λ (state : State). IsCutTo number state state) (sym is)
     (ap (λ (temporaries : List Temporary). with_temporaries temporaries before) (sym (take-take number number before.frame.temporaries (omega arith))))
 
--- no more than so many are left
+-- at most this many temporaries remain
 pub cut_below : (number : ℕ) (before after : State) → IsCutTo number before after → length after.frame.temporaries ≤ number
 cut_below number before after is =
     let long = ap (λ (state : State). length state.frame.temporaries) is ∙ length-take number before.frame.temporaries in
     omega (arith, long)
 
--- temporaries alone are cut
+-- only temporaries are cut
 pub cut_shared : (end : BlockEnd) (before after : State) → IsCutForEnd end before after
     → (temporaries : List Temporary) × (after ≡ with_temporaries temporaries before)
 cut_shared (Jump block) before after is = (before.frame.temporaries, is)
@@ -49,17 +49,17 @@ cut_for (Switch at temporary cases otherwise) before after is = cut_below (tempo
 cut_for (Return temporary) before after is = cut_below (temporary + 1) before after is
 cut_for Finish before after is = tt
 
--- a state that has no more is as if it were cut
+-- a state with at most this many temporaries isn't changed by the cut
 pub uncut : (number : ℕ) (state : State) → length state.frame.temporaries ≤ number → IsCutTo number state state
 uncut number state few =
     ap (λ (temporaries : List Temporary). with_temporaries temporaries state) (sym (take_all number state.frame.temporaries few))
 
 module _ (code : Code) (names : Naming) (program : TypedProgram) (v : Valuation) where
-  -- the state of the run
+  -- the run's state that a state represents
   abbrev run : State → CodeState
   run state = meaning code names program state v
 
-  -- the run's state is cut too
+  -- and the run's state is cut alike
   pub cut_means : (number : ℕ) (before after : State) → IsCutTo number before after → run after ≡ cut number (run before)
   cut_means number before after is =
       let temporaries = before.frame.temporaries in
@@ -73,17 +73,17 @@ module _ (code : Code) (names : Naming) (program : TypedProgram) (v : Valuation)
   cut_both : (number : ℕ) (before after : State) → IsCutTo number before after → cut number (run before) ≡ cut number (run after)
   cut_both number before after is = sym (cut_means number before after is) ∙ cut_means number after after (cut_once number before after is)
 
-  -- a state that has no more than so many means a run's state that has no more
+  -- if a state has at most this many temporaries, the cut doesn't change the run's state
   pub uncut_means : (number : ℕ) (state : State) → length state.frame.temporaries ≤ number → cut number (run state) ≡ run state
   uncut_means number state few = sym (cut_means number state state (uncut number state few))
 
-  -- a frame that is left gives no operands on
+  -- when a frame is left, its operands don't matter
   left_cut : (callers : List (CallFrame Point)) (given : Operand) (stack : List Operand) (m : CodeState)
       → leave_to callers given m ≡ leave_to callers given (with_stack stack m)
   left_cut [] given stack m = refl
   left_cut (caller ∷ callers) given stack m = refl
 
-  -- the end of a block does the same where its temporaries are cut before
+  -- the end of a block does the same if its temporaries are cut before
   pub end_cut : (end : BlockEnd) (before after : State) → IsCutForEnd end before after → do_end code end (run before) ≡ do_end code end (run after)
   end_cut (Jump block) before after is = ap (λ (s : State). do_end code (Jump block) (run s)) (sym is)
   end_cut (Branch at temporary one other) before after is =

@@ -23,7 +23,7 @@ module _ (code : Code) where
   jumps_stay here = refl
   jumps_stay (jumps {spot = spot} {next = next} e way) = jumps_stay way ∙ landed spot next (jump_from (point_of code spot)) e
 
-  -- after an operation, jumps lead on from the next spot in its block
+  -- after an operation, jumps continue from the next spot in its block
   pub next_jumps : (spot last : Spot) (operation : Operation) → StandsAt code operation spot → IsNext code spot (Some last)
       → JumpsTo code (spots.after spot) last
   next_jumps spot last operation stands (next, leads, settled) =
@@ -34,7 +34,7 @@ module _ (code : Code) where
     abbrev count : ℕ
     count = count_of_locals program spot.function
 
-    -- what is left of a block has its operations
+    -- the rest of a block has operations of the block
     first_left : (number : ℕ) (all rest : List Operation) → rest_from number all ≡ Some (operation ∷ rest)
         → All (IsIntegerOperation count) all → IsIntegerOperation count operation
     first_left zero all rest e integer =
@@ -70,7 +70,7 @@ module _ (code : Code) where
     in_flow integer None found e = nowhere e
     in_flow integer (Some flow) found e = in_block flow (integer flow found) (slice_get flow.blocks spot.block) refl e
 
-    -- an operation of integer code works with integers alone
+    -- an operation of integer code works only with integers
     pub integer_at : HasIntegerCode code program spot.function → point_of code spot ≡ before operation following
         → IsIntegerWork count operation.work
     integer_at integer e = in_flow integer (flow_of code spot.function) refl e

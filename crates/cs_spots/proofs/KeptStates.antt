@@ -53,7 +53,7 @@ knows_answered before state knows =
     }
 
 module _ (program : TypedProgram) (bases : List Base) (known : ℕ → Bool) where
-  -- a frame that goes on in its function
+  -- a frame that continues in its function
   pub locals_moved : (spot : Spot) (state : State) → spot.function ≡ state.frame.spot.function → HasLocalsAlone program bases known state
       → HasLocalsAlone program bases known (at_spot spot state)
   locals_moved spot state same have = record {
@@ -81,7 +81,7 @@ module _ (program : TypedProgram) (bases : List Base) (known : ℕ → Bool) whe
     read = have.read;
   }
 
-  -- the entry has returned a value that its frame gives
+  -- the entry has returned a value of its frame
   pub locals_returned : (given : Temporary) (result : Option Value) (state : State) → IsReturned given result → AreIn program bases known state.frame given
       → HasLocalsAlone program bases known state → HasLocalsAlone program bases known (with_result result state)
   locals_returned given result state is inside have = record {

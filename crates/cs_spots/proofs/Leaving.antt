@@ -47,13 +47,13 @@ module _ (code : Code) (names : Naming) (program : TypedProgram) (known : ℕ �
   abbrev run : State → Valuation → CodeState
   run state v = meaning code names program state v
 
-  -- under each valuation that fits, this stands first
+  -- under each valuation that fits, this comes first
   abbrev pub BeginsFirst : Type 0
   BeginsFirst = (cells : Path → InputKind → Cell) (v : Valuation) → Fits v before.constraints
       → UsesAll cells (answers_left before earlier.used v) (act (run before v))
       → BeginsIn code names.bases after v later.first (left_of cells (answers_left before earlier.used v) (act (run before v)))
 
-  -- an error that is handed on is a wait, or want of memory
+  -- an error that is returned is a wait, or memory ran out
   pub waits_there : (why : Pause) → IsErr answer × IsErrAnd answer (λ e. e ≡ why)
       → HasLocalsAlone program names.bases known after → (why ≡ pause.Waits → (after ≡ with_result after.result before) × BeginsFirst)
       → Leaves code names program known before after earlier later answer act
@@ -71,7 +71,7 @@ module _ (code : Code) (names : Naming) (program : TypedProgram) (known : ℕ �
         waits = λ so. (waits (sym is.1 ∙ so)).1;
       }
 
-  -- the run goes on to a block
+  -- the run continues with a block
   pub goes_there : (block : ℕ) (middle : State) → KeepsKnown before middle → middle.frame.spot ≡ before.frame.spot
       → HasLocalsAlone program names.bases known middle → OnOk answer (GoesTo code block middle after) → IfErr answer (λ why. why ≡ pause.Memory)
       → ((cells : Path → InputKind → Cell) (v : Valuation) → Fits v before.constraints
@@ -115,7 +115,7 @@ module _ (code : Code) (names : Naming) (program : TypedProgram) (known : ℕ �
             waits = tt;
           }
 
-  -- the newest operand is dropped before that
+  -- the newest operand is popped before that
   pub drops_and_goes : (block : ℕ) (middle : State) → IsDropped 1 before middle → HasLocalsAlone program names.bases known before
       → OnOk answer (GoesTo code block middle after) → IfErr answer (λ why. why ≡ pause.Memory)
       → ((cells : Path → InputKind → Cell) (v : Valuation) → Fits v before.constraints
@@ -140,7 +140,7 @@ module _ (code : Code) (names : Naming) (program : TypedProgram) (before : State
       ap (λ (callers : List Frame). left_of cells answers
       (leave_to (map (frame_of code names before v) callers) (value (ending v)) (ending v))) last
 
-  -- the run ends with the frame, where no other frame waits
+  -- the run ends with its only frame
   pub runs_out : (known : ℕ → Bool) (after : State) (earlier later : Progress) {T : Type 0} (answer : Result T Pause)
       → ((v : Valuation) → value (ending v) ≡ operand_of names.bases before.blocks v given)
       → HasLocalsAlone program names.bases known before → AreIn program names.bases known before.frame given

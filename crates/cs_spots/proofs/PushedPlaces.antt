@@ -1,4 +1,4 @@
--- Pushing the place of an object: for the contract of `name`.
+-- Pushing a pointer to the beginning of an object: for the contract of `name`.
 use Rattle.std.proofs.Common.{◌≡◌, ℕ, pos, List, Some, slice_get, Result, Ok, Err, OnOk, subst}
 use Rattle.cs_terms.specs.declared.term.Lin.{Lin}
 use Rattle.cs_checker.specs.Answers.{constant}

@@ -36,7 +36,7 @@ use Rattle.cs_spots.proofs.CutMeanings.{cut_once, cut_means, cut_shared, end_cut
 use Rattle.cs_spots.proofs.Going.{jumps_stay, next_jumps}
 use Rattle.cs_spots.proofs.KeptStates.{knows_on, knows_cut, knows_moved, knows_returned, knows_answered, locals_moved, locals_answered}
 
--- an act is what another is, after the same answers
+-- equal acts after equal answers
 module _ (cells : Path → InputKind → Cell) (one two : List ℤ) (first second : Act CodeState) (answers : one ≡ two) (same : first ≡ second) where
   uses_same : UsesAll cells one first → UsesAll cells two second
   uses_same uses = subst (λ given. UsesAll cells given second) answers (subst (UsesAll cells one) same uses)
@@ -44,12 +44,12 @@ module _ (cells : Path → InputKind → Cell) (one two : List ℤ) (first secon
   left_same : left_of cells one first ≡ left_of cells two second
   left_same i = left_of cells (answers i) (same i)
 
--- nothing is left of an act that goes on
+-- a step without an event uses no answer
 goes_left : (cells : Path → InputKind → Cell) (answers : List ℤ) (next : CodeState) → left_of cells answers (Goes next) ≡ Goes next
 unfolding left_of
 goes_left cells answers next = refl
 
--- where no answer was used, all are left
+-- if no answer was used, all remain
 all_left : (before state : State) (used : ℕ) (v : Valuation) → used ≡ 0 → state.answers ≡ before.answers
     → map (value_of v) before.answers ≡ answers_left state used v
 all_left before state used v none same =

@@ -32,13 +32,13 @@ module _ (code : Code) (names : Naming) (program : TypedProgram) (state : State)
   abbrev switches : Valuation → Act CodeState
   switches v = do_end code (Switch at temporary cases otherwise) (run v)
 
-  -- the act goes the way of the term's value
+  -- the act continues with the case of the term's value
   way_taken : (v : Valuation) → Fits v state.constraints → switches v ≡ goes_way code at (way_of cases otherwise (value_of v term) 0) (pop (run v))
   way_taken v fits =
       ap (λ m. goes_way code at (way_of cases otherwise (number_in (cell_at m 0)) 0) (pop m)) (uncut_means code names program v (temporary + 1) state few)
       ∙ ap (λ number. goes_way code at (way_of cases otherwise number 0) (pop (run v))) (is code names program v fits)
 
-  -- the case stands first where no answer is left
+  -- the case comes first if no answer remains
   pub case_shows : EndsAt code (Switch at temporary cases otherwise) state.frame.spot
       → (cells : Path → InputKind → Cell) (answers : List ℤ) (v : Valuation)
       → Fits v state.constraints → answers ≡ [] → ShowsCase code state v at term (left_of cells answers (switches v))
@@ -52,7 +52,7 @@ module _ (code : Code) (names : Naming) (program : TypedProgram) (state : State)
     shows = λ i. left_of cells (none i) (way_taken v fits i);
   }
 
-  -- and else leads to its block
+  -- and otherwise the act leads to its block
   pub case_leads : (cells : Path → InputKind → Cell) (before after : List ℤ) (number : ℤ) (block : ℕ) (next : CodeState) (v : Valuation)
       → Fits v state.constraints → before ≡ number ∷ after → (way_of cases otherwise (value_of v term) 0).block ≡ block → next ≡ pop (run v)
       → Leads cells before after (switches v) (Goes (enters code block next))

@@ -19,7 +19,7 @@ module _ (otherwise : ℕ) (number : ℤ) where
   abbrev pub led : List SwitchCase → ℕ
   led cases = (way_of cases otherwise number 0).block
 
-  -- which doesn't depend on how cases are counted
+  -- which doesn't depend on the number at which the cases begin
   any_count : (cases : List SwitchCase) (one other : ℕ) → (way_of cases otherwise number one).block ≡ (way_of cases otherwise number other).block
   any_count [] one other = refl
   any_count (first ∷ cases) one other = decided (any_count cases (one + 1) (other + 1)) (int_eq first.value number)

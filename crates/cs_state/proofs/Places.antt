@@ -12,13 +12,13 @@ use Rattle.cs_types.specs.ShapeEquality.{same_shape-refl}
 pub mapped_at : {A B : Type 0} (f : A → B) (xs : List A) (k : ℕ) (d : A) → k < length xs → slice_get (map f xs) k ≡ Some (f (slice_index_or xs k d))
 mapped_at f xs k d more = slice_get-map f xs k ∙ ap (option_map f) (slice_get-get_or xs k d more)
 
--- a list in which no place before an end has an element doesn't contain it
+-- a list doesn't contain an element that is at none of its indices
 pub not_contained : {B : Type 0} (ys : List B) (y : B) (end : ℕ) → length ys ≤ end → ((k : ℕ) → k < end → slice_get ys k ≡ Some y → ⊥)
     → Contains ys y → ⊥
 not_contained ys y end past none there =
     none there.0 (omega (arith, there.1, past)) (slice_get-get_or ys there.0 y there.1 ∙ ap Some there.2)
 
--- no place up to one is a type's, if none before it is, and the type there is another
+-- a type is at no index up to a place if it is at none before it, and another type is there
 pub none_further : (ys : List Shape) (y there : Shape) (place : ℕ) → ((k : ℕ) → k < place → slice_get ys k ≡ Some y → ⊥)
     → slice_get ys place ≡ Some there → same_shape there y ≡ false → (k : ℕ) → k < place + 1 → slice_get ys k ≡ Some y → ⊥
 none_further ys y there place none here other k less found =

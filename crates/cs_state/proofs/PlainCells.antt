@@ -13,7 +13,7 @@ use Rattle.cs_terms.specs.declared.symbol.Sym.{Sym}
 use Rattle.cs_state.specs.ReadCells.{SymMap, ReadMap, AreOffsets, HasPlainCells, cells_of, keyed}
 
 module _ {V : Type 0} where
-  -- what is found after an insertion was there, or is what was inserted under its key
+  -- what is found after an insertion was there, or is what was inserted at its key
   found_then : (P : ℕ × ℕ → V → Type 0) (m : finite.FinMap key_cmp V) (number : ℕ) (new : V) → P (number, 0) new
       → ((key : ℕ × ℕ) (value : V) → finite.get m key ≡ Some value → P key value) → (key : ℕ × ℕ) (value : V)
       → finite.get (finite.insert m (number, 0) new) key ≡ Some value → P key value
@@ -27,7 +27,7 @@ module _ {V : Type 0} where
           (subst (P (number, 0)) (same_Some new value (rw t at is)) here)
       by false t is = all key value (rw t at is)
 
-  -- what is left after a removal was there
+  -- what remains after a removal was there
   pub left_then : (m : finite.FinMap key_cmp V) (k key : ℕ × ℕ) (value : V) → finite.get (finite.remove m k) key ≡ Some value
       → finite.get m key ≡ Some value
   left_then m k key value e = by (eq_by_cmp key_cmp key k) (sym (finite.get-remove key_cmp_total m k key) ∙ e)

@@ -38,7 +38,7 @@ cells_here m b cells = ap (λ found. unwrap_or found finite.empty) (get_here m b
 pub cells_elsewhere : (m : ReadMap) (b c : ℕ) (cells : SymMap) → c ≢ b → cells_of (finite.insert m (b, 0) cells) c ≡ cells_of m c
 cells_elsewhere m b c cells differ = ap (λ found. unwrap_or found finite.empty) (get_elsewhere m b c cells differ)
 
--- one cell of a base region has changed, and all others are as they were
+-- one cell of a base region has changed, and no other one
 pub read_elsewhere : (m : ReadMap) (base offset : ℕ) (cells : SymMap) (b o : ℕ)
     → (o ≢ offset → finite.get cells (o, 0) ≡ finite.get (cells_of m base) (o, 0)) → (b ≢ base) ⊎ (o ≢ offset)
     → read_at (finite.insert m (base, 0) cells) b o ≡ read_at m b o
@@ -88,7 +88,7 @@ either_way (Some x) t v d = refl
 either_way None true v d = refl
 either_way None false v d = refl
 
--- cells that are added at once are added one by one
+-- adding several cells at once adds them one by one
 get-keyed : (cells : List (ℕ × Sym)) (m : SymMap) (o : ℕ)
     → finite.get (insert_all m (keyed cells)) (o, 0) ≡ option_or (last_read cells o) (finite.get m (o, 0))
 get-keyed [] m o = refl
@@ -107,7 +107,7 @@ all_added_here m base cells o =
 pub others_keep : (m : ReadMap) (base : ℕ) (cells : SymMap) (b o : ℕ) → b ≢ base → read_at (finite.insert m (base, 0) cells) b o ≡ read_at m b o
 others_keep m base cells b o differ = ap (λ found. finite.get found (o, 0)) (cells_elsewhere m base b cells differ)
 
--- one more leaf's cell is out
+-- the cell of one more leaf is removed
 pub leaf_out : (leaves : List (ℕ × Value)) (i : ℕ) (d : ℕ × Value) (m : SymMap) (o : ℕ) → i < length leaves
     → cond (has_leaf (drop (i + 1) leaves) o) None (finite.get (finite.remove m ((get_or leaves i d).0, 0)) (o, 0))
     ≡ cond (has_leaf (drop i leaves) o) None (finite.get m (o, 0))

@@ -108,7 +108,7 @@ module _ {names after : Naming} (e : Extends names after) where
   gives_later program (array element length) path count value old new g = g
   gives_later program (struct number) path count value old new g = g
 
--- what an input gave, whatever its type: what is held now, and what of the state is as it was
+-- what receiving an input does, whatever its type: the value that it holds, and which parts of the state are unchanged
 pub record IsGiven (program : TypedProgram) (names : Naming) (shape : Shape) (path : Path) (count : Option ℕ) (value : Value) (old new : State)
     : Type 0 where
   pub holds : HoldsValue program names shape path count value new
@@ -134,7 +134,7 @@ module _ {names : Naming} {path : Path} {range : ℤ × ℤ} {it : Sym} {old new
       ]
 
 module _ (program : TypedProgram) (names : Naming) (path : Path) (count : Option ℕ) (value : Value) (old new : State) where
-  -- nothing of the state has changed
+  -- the state is unchanged
   given_unset : (shape : Shape) → HoldsValue program names shape path count value new → new ≡ old
       → IsGiven program names shape path count value old new
   given_unset shape holds same = record {
@@ -196,7 +196,7 @@ module _ (program : TypedProgram) (names : Naming) (path : Path) (count : Option
   given (array element number) g = given_unset (array element number) g.0 g.1
   given (struct number) g = given_unset (struct number) g.0 g.1
 
--- what a parameter holds is held in a later state in which its symbol and its block are the same
+-- what a parameter holds, it holds in a later state in which its symbol and its block are the same
 module _ (program : TypedProgram) {names after : Naming} (e : Extends names after) (path : Path) (count : Option ℕ) (value : Value) (old new : State)
     (symbols : (s : ℕ) → slice_get after.syms s ≡ Some (Input path) → set_of new.constraints s ≡ set_of old.constraints s)
     (blocks : (b : ℕ) → slice_get after.bases b ≡ Some (Entry path) → block_of new.blocks b ≡ block_of old.blocks b) where

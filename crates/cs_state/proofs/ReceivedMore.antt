@@ -26,7 +26,7 @@ use Rattle.cs_types.specs.Shape.{Shape, void, integer, pointer, array, struct}
 use Rattle.cs_state.specs.Writes.{with_memory, with_known}
 use Rattle.cs_state.proofs.Received.{IsGiven, given, holds_kept, same_input, same_entry, same_local, same_name}
 
--- a binding is no fill
+-- a direct binding isn't a fill
 IsFill : Binding → Type 0
 IsFill (Direct value) = ⊥
 IsFill (Fill fill) = Unit {0}
@@ -194,7 +194,7 @@ module _ (program : TypedProgram) {names after : Naming} (e : Extends names afte
     symbols = symbols_more;
   }
 
--- what a parameter's input gave changes what is known alone
+-- receiving a parameter's input changes only what is known
 known_given : (program : TypedProgram) (names : Naming) (shape : Shape) (path : Path) (count : Option ℕ) (value : Value) (old new : State)
     → Gives program names shape path count value old new → new ≡ with_known new old
 known_given program names void at count value old new g = g.1 ∙ ap (λ (s : State). with_known s old) (sym g.1)

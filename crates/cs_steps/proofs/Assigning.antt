@@ -50,12 +50,12 @@ use Rattle.cs_steps.proofs.Loading.{touched}
 use Rattle.cs_steps.proofs.Working.{IsDone, works_dropped, works_done}
 
 module _ (code : Code) (names : Naming) (program : TypedProgram) (before : State) where
-  -- what comes after a store: a temporary stands in place of some
+  -- after a store, one temporary replaces some
   abbrev pub stored_left : ℕ → Temporary → Point → Valuation → Memory → Act CodeState
   stored_left count left todo v memory =
       Goes (push (operand_of names.bases before.blocks v left) (with_memory memory (pop_many count (stands code names program before todo v))))
 
-  -- an act that leads to a store, and to what comes after it
+  -- an act that leads to a store, and to what follows it
   module _ (act : CodeState → Act CodeState) (part : Valuation → (Memory → Act CodeState) → Act CodeState) (count : ℕ) (left : Temporary)
       (earlier middle : ℕ)
       (leads : (todo : Point) → AllLead code names program before earlier middle (λ v. act (stands code names program before todo v))
@@ -86,7 +86,7 @@ module _ (code : Code) (names : Naming) (program : TypedProgram) (before : State
 
   module _ (known : ℕ → Bool) (once : IsNumbered names.bases) (budgets : RunBudgets) (at : Place) (progress : Progress) (declaration : ℕ)
       (base : ℕ) (named : slice_get names.bases base ≡ Some (Local before.frame.number declaration)) (scalar : Bool) (middle : State) where
-    -- an initialization is a store too, after which the value is dropped
+    -- an initialization is a store too, after which the value is popped
     pub initialize_works : (offset : ℕ) (ty : Shape) (stored : Temporary) → IsOperandAt before 0 stored
         → IsWritten program names known before middle ty (record { base = base; offset = offset }) stored
         → (after : State) {T : Type 0} (answer : Result T Pause) → OnOk answer (IsDropped 1 middle after) → OnOk answer (MeansDropped 1 middle after)
@@ -146,7 +146,7 @@ module _ (code : Code) (names : Naming) (program : TypedProgram) (before : State
         done (Ok x) = it
         done (Err why) = tt
 
--- a number is listed in a list of it alone, and no other is
+-- a list of one number contains only this one
 pub is_listed : (base : ℕ) → Contains (base ∷ []) base
 is_listed base = (0, search rules, refl)
 

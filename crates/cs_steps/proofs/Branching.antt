@@ -39,12 +39,12 @@ use Rattle.cs_operators.specs.Pointing.{cell_in, test}
 use Rattle.cs_spots.proofs.Beginning.{begins_in}
 use Rattle.cs_spots.proofs.CutMeanings.{uncut_means}
 
--- what an act asks
+-- the operation that an act asks for
 abbrev asked_at : Act CodeState → Option (Place × Operation)
 asked_at (Asks at operation onward) = Some (at, operation)
 asked_at other = None
 
--- what stands first doesn't depend on how an act goes on after a question
+-- what comes first doesn't depend on how an act continues after a question
 begins_alike : (bases : List Base) (state : State) (v : Valuation) (first : Next) (at : Place) (operation : Operation) (one other : ℤ → Act CodeState)
     → BeginsWith bases state v first (Asks at operation one) → BeginsWith bases state v first (Asks at operation other)
 begins_alike bases state v next.Done at operation one other begins = absurd begins
@@ -62,7 +62,7 @@ begins_alike bases state v (next.Checks place checked) at operation one other be
 begins_alike bases state v (next.Ends outcome) at operation one other (short, stops) = absurd cc
 
 module _ (cells : Path → InputKind → Cell) (at : Place) (onward : Bool → Act CodeState) where
-  -- a test that leads on leads a branch on
+  -- where a test continues, a branch continues alike
   pub branch_leads : (before after : List ℤ) (cell : Cell) (next : CodeState)
       → Leads cells before after (test at tested.Branch cell onward) (Goes next) → Leads cells before after (branch at cell onward) (Goes next)
   unfolding left_of UsesAll
@@ -73,7 +73,7 @@ module _ (cells : Path → InputKind → Cell) (at : Place) (onward : Bool → A
   branch_leads [] after (PointerCell object offset) next leads uses = let wrong = (leads tt).0 in absurd cc
   branch_leads (answer ∷ before) after (PointerCell object offset) next leads uses = leads uses
 
-  -- what stands first in a test stands first in a branch
+  -- what comes first in a test comes first in a branch
   pub branch_waits : (bases : List Base) (state : State) (v : Valuation) (first : Next) (answers : List ℤ) (cell : Cell)
       → (UsesAll cells answers (test at tested.Branch cell onward)
       → BeginsWith bases state v first (left_of cells answers (test at tested.Branch cell onward)))
@@ -108,7 +108,7 @@ module _ (code : Code) (names : Naming) (program : TypedProgram) (state : State)
       (uncut_means code names program v (temporary + 1) state few)
       ∙ ap (λ cell. branch at cell (goes_by v)) (is code names program v)
 
-  -- the test stands first
+  -- the test comes first
   pub test_shows : (used : ℕ) (first : Next) → ((onward : Bool → Act CodeState) → WaitsFor names.bases state used first (λ v. tests v onward))
       → (cells : Path → InputKind → Cell) (v : Valuation) → Fits v state.constraints → UsesAll cells (answers_left state used v) (branches v)
       → BeginsIn code names.bases state v first (left_of cells (answers_left state used v) (branches v))

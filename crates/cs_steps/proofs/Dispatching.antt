@@ -39,7 +39,7 @@ use Rattle.cs_progress.proofs.KnownSymbols.{constant_over}
 use Rattle.cs_operators.proofs.Computed.{stands, AllLead}
 use Rattle.cs_steps.proofs.Working.{IsDone, works_done}
 
--- a touch shows nothing
+-- a touch isn't an event
 pub leads_touched : (cells : Path → InputKind → Cell) (answers : List ℤ) (touch : Touch) (act : Act CodeState)
     → Leads cells answers answers (Touches touch act) act
 unfolding left_of UsesAll
@@ -53,7 +53,7 @@ module _ (code : Code) (names : Naming) (program : TypedProgram) (known : ℕ �
       (λ v. other todo (stands code names program before todo v))
 
   module _ (after : State) {T : Type 0} (answer : Result T Pause) (have : HasLocalsAlone program names.bases known before) where
-    -- the work of an operator is its act, after which it is in its frame, and a state of locals alone is one
+    -- an operator's act is the work of its operation, after which the frame is the same, and all pointers still point to locals
     pub works_of : Computes code names program before after earlier later answer act → OnOk answer (StaysInFrame before after)
         → OnOk answer ((program : TypedProgram) (bases : List Base) (known : ℕ → Bool) → KeepsLocals program bases known before after)
         → WaitsUnchanged before after answer → Works code names program known before after earlier later answer act
@@ -84,7 +84,7 @@ module _ (code : Code) (names : Naming) (program : TypedProgram) (known : ℕ �
               (leads_same cells _ _ _ (ap (λ m. Goes (to_do todo m)) (sym (means code names program v))));
         }
 
-    -- the place of a local of the frame
+    -- the address of a local of the frame
     pub works_named : (given : Naming) (declaration : ℕ) → Extends given names → declaration < count_of_locals program before.frame.spot.function
         → OnOk answer (IsPlacePushed given.bases (Local before.frame.number declaration) before after)
         → IfErr answer (λ why. why ≡ pause.Memory)
@@ -111,7 +111,7 @@ module _ (code : Code) (names : Naming) (program : TypedProgram) (known : ℕ �
                   ∙ ap (λ m. Goes (to_do todo m)) (sym (placed.means code names program v))));
             }
 
-  -- nothing but a touch
+  -- only a touch
   pub works_met : HasLocalsAlone program names.bases known before → LeadsTo (λ todo m. Goes m)
       → Works {T = Unit {0}} code names program known before before earlier later (Ok tt) act
   works_met have leads = works_done code names program known before before earlier later (Ok tt) act (record {
@@ -126,7 +126,7 @@ module _ (code : Code) (names : Naming) (program : TypedProgram) (known : ℕ �
     goes = leads;
   }) tt
 
-  -- nothing is claimed where memory is lacking
+  -- nothing is claimed if memory runs out
   pub works_failed : {T : Type 0} (after : State) (why : Pause) → why ≡ pause.Memory
       → Works {T = T} code names program known before after earlier later (Err why) act
   works_failed after why memory = record {
@@ -136,7 +136,7 @@ module _ (code : Code) (names : Naming) (program : TypedProgram) (known : ℕ �
     unchanged = no_wait why memory;
   }
 
-  -- the frame goes on after the work
+  -- the frame continues after the work
   pub works_on : (middle after : State) (answer : Result (Unit {0}) Pause)
       → Works {T = Unit {0}} code names program known before middle earlier later (Ok tt) act
       → OnOk answer (IsMovedOn code middle after) → IfErr answer (λ why. why ≡ pause.Memory)
@@ -149,7 +149,7 @@ module _ (code : Code) (names : Naming) (program : TypedProgram) (known : ℕ �
     unchanged = no_wait why memory;
   }
 
-  -- or it doesn't go on
+  -- or it doesn't continue
   pub works_stopped : (after : State) (answer : Result (Unit {0}) Pause) (why : Pause) → IsErr answer × IsErrAnd answer (λ e. e ≡ why)
       → Works {T = Unit {0}} code names program known before after earlier later (Err why) act
       → WorksOn code names program known before after earlier later answer act

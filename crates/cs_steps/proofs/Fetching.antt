@@ -43,7 +43,7 @@ module _ (before after : State) {T : Type 0} (answer : Result T Pause) (first se
   pub both_stay : OnOk answer (StaysInFrame before after)
   both_stay = on_ok_weaker answer (stays (before.frame.temporaries ++ first ∷ [] ++ second ∷ []) before after) pushed
 
-  -- what may be in the frame was pushed
+  -- what was pushed may be in the frame
   pub both_keep : (MayAllBeIn before first → MayAllBeIn before second)
       → OnOk answer (MayAllBeIn before first → (program : TypedProgram) (bases : List Base) (known : ℕ → Bool)
       → KeepsLocals program bases known before after)
@@ -55,7 +55,7 @@ module _ (before after : State) {T : Type 0} (answer : Result T Pause) (first se
       (All-push here (before.frame.temporaries ++ first ∷ []) second
       (All-push here before.frame.temporaries first have.temporaries (given program bases known have)) (inside given program bases known have)) have) pushed
 
--- what is handed on as an error is waited for
+-- an error that is returned is waited for
 pub fetch_handed : {T : Type 0} (code : Code) (names : Naming) (program : TypedProgram) (before after : State) (earlier later : Progress)
     (answer : Result T Pause) (rest : Valuation → CodeState → Act CodeState) (why : Pause) → IsErr answer × IsErrAnd answer (λ e. e ≡ why)
     → (why ≡ pause.Waits → (todo : Point)
@@ -73,7 +73,7 @@ module _ (code : Code) (names : Naming) (program : TypedProgram) (before : State
   abbrev operand : Valuation → Operand
   operand v = operand_of names.bases before.blocks v loaded
 
-  -- what is done with the number that the conversion gives
+  -- what follows with the converted number
   abbrev beside : Point → Valuation → ℤ → Act CodeState
   beside todo v made = Goes (push_cell (NumberCell made) (push (operand v) (stands code names program before todo v)))
 

@@ -34,7 +34,7 @@ converts_loaded names model at from to loaded state v = converts_beside model at
 module _ (code : Code) (names : Naming) (program : TypedProgram) (known : ℕ → Bool) (before : State)
     (alone : HasLocalsAlone program names.bases known before) (middle : State) (same : middle ≡ before) (after : State) (earlier later : Progress)
     {T : Type 0} (answer : Result T Pause) (act : CodeState → Act CodeState) where
-  -- what was loaded stands in place of the place
+  -- what was loaded replaces the address
   pub loaded_works : (loaded : Temporary) → AreIn program names.bases known before.frame loaded
       → OnOk answer (IsReplaced 1 loaded middle after) → OnOk answer (MeansReplaced 1 loaded middle after) → IfErr answer (λ why. why ≡ pause.Memory)
       → ((todo : Point) → AllLead code names program before earlier.used later.used (λ v. act (stands code names program before todo v))
@@ -49,7 +49,7 @@ module _ (code : Code) (names : Naming) (program : TypedProgram) (known : ℕ �
       (λ v. Goes (push (operand_of names.bases before.blocks v loaded) (with_memory (memory_in program names s v)
       (pop_many 1 (stands code names program before todo v)))))) (sym same) (leads todo))
 
-  -- what was loaded is used further, in the state as it was
+  -- what was loaded is used further, in the same state
   pub fetch_works : (between : Progress) (rest : State → Valuation → CodeState → Act CodeState)
       → Fetches code names program middle after between later answer (rest middle)
       → OnOk answer (StaysInFrame middle after) → OnOk answer (KeepsLocals program names.bases known middle after) → WaitsUnchanged middle after answer

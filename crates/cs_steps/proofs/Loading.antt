@@ -51,14 +51,14 @@ use Rattle.cs_steps.specs.declared.access.Reached.{Reached}
 use Rattle.cs_steps.specs.Reaching.{reaches, cell_reached}
 use Rattle.cs_steps.specs.Loading.{Part, Loads, load_part, scalar_part, loaded_in}
 
--- a touch shows nothing
+-- a touch isn't an event
 pub touched : (cells : Path → InputKind → Cell) (answers : List ℤ) (touch : ℕ → Touch) (local : Option ℕ) (act : Act CodeState)
     → Leads cells answers answers (touches_then touch local act) act
 unfolding left_of UsesAll
 touched cells answers touch None act uses = (refl, uses)
 touched cells answers touch (Some declaration) act uses = (refl, uses)
 
--- what is held in the frame that runs, or was never set there, may be in it
+-- a cell of the current frame's locals may be in the frame, whether it was bound or never set
 held_inside : (it : Held) (P : Value → Type 0) → ((bound : Value) → it ≡ found.Direct bound → P bound) → P value.Unset → P (value_held it)
 held_inside (found.Direct bound) P stored unset = stored bound refl
 held_inside (found.Fill fill) P stored unset = unset
@@ -71,7 +71,7 @@ module _ (program : TypedProgram) (names : Naming) (known : ℕ → Bool) (befor
   abbrev memory : Valuation → Memory
   memory v = memory_in program names before v
 
-  -- the scalar that was reached is what is held there, and it was set
+  -- the scalar at a location is what the store holds there, if it was set
   pub scalar_is : IsNumbered names.bases → (at : Place) (reached : Reached)
       → IsLocalOf names.bases before.frame.number (count_of_locals program before.frame.spot.function) reached.base
       → (given : Value) → given ≡ value_held (held before.store reached.base reached.offset) → (v : Valuation)
@@ -98,11 +98,11 @@ module _ (program : TypedProgram) (names : Naming) (known : ℕ → Bool) (befor
     object_loaded object offset =
         touches_then (λ declaration. LoadTouch before.frame.number declaration access.at) access.local (value_loaded object offset)
 
-    -- what comes once a variable was reached
+    -- what follows after a location was reached
     abbrev arrived : Cell → Act CodeState
     arrived cell = direct access.at cell object_loaded
 
-    -- a direct load begins with what reaches the variable
+    -- a direct load begins with reaching the location
     load_is : (place : Value) → access.direct ≡ true
         → load_part program names before access place v onward ≡ reaches access.at (cell_in names.bases before place v) arrived
     load_is place is =
@@ -129,7 +129,7 @@ module _ (program : TypedProgram) (names : Naming) (known : ℕ → Bool) (befor
             (ap (λ shape. value_at program (memory v) access.at shape (object_of base) reached.offset (λ memory operand. onward (memory, operand))) is))
 
   module _ (access : Access) (place : Value) (integer : IsOfInteger access) where
-    -- a variable that is reached is read
+    -- a location that was reached is read
     pub load_leads : (reached : Reached) (earlier later : ℕ)
         → Gives before earlier later (λ v. reaches access.at (cell_in names.bases before place v)) (cell_reached names.bases reached)
         → LeadsTo before earlier later (load_part program names before access place) (scalar_part program names before access.at reached)
@@ -140,7 +140,7 @@ module _ (program : TypedProgram) (names : Naming) (known : ℕ → Bool) (befor
         (leads_same cells _ _ _ (load_is access v onward place integer.direct)) (located cells v fits after))
         (scalar_leads access v onward integer.ty integer.of cells _ reached)
 
-    -- where it is waited for to be reached, nothing is read yet
+    -- if reaching it is waited for, nothing was read yet
     pub load_waits : (earlier : ℕ) (first : Next)
         → ((onward : Cell → Act CodeState)
         → WaitsFor names.bases before earlier first (λ v. reaches access.at (cell_in names.bases before place v) onward))
@@ -151,7 +151,7 @@ module _ (program : TypedProgram) (names : Naming) (known : ℕ → Bool) (befor
         waits_on cells _ _ (load_part program names before access place v onward) (reaches access.at (cell_in names.bases before place v) after)
         names.bases before v first (leads_same cells _ _ _ (load_is access v onward place integer.direct)) (waits after cells v fits)
 
-    -- what a variable that is reached holds is loaded
+    -- what the location holds is loaded
     pub load_done : (reached : Reached) (earlier middle later : Progress)
         → Gives before earlier.used middle.used (λ v. reaches access.at (cell_in names.bases before place v)) (cell_reached names.bases reached)
         → (after : State) (answer : Result Temporary Pause)
@@ -167,7 +167,7 @@ module _ (program : TypedProgram) (names : Naming) (known : ℕ → Bool) (befor
     }
 
   module _ (after : State) (earlier later : Progress) (answer : Result Temporary Pause) where
-    -- what is handed on as an error is waited for, and has changed nothing
+    -- an error that is returned is waited for, and has changed nothing
     pub load_handed : (part : Part) (why : Pause) → IsErr answer × IsErrAnd answer (λ e. e ≡ why)
         → (why ≡ pause.Waits → (after ≡ before)
         × ((onward : Memory × Operand → Act CodeState) → WaitsFor names.bases before earlier.used later.first (λ v. part v onward)))
@@ -186,7 +186,7 @@ module _ (program : TypedProgram) (names : Naming) (known : ℕ → Bool) (befor
   module _ (once : IsNumbered names.bases) (at : Place) (reached : Reached)
       (local : IsLocalOf names.bases before.frame.number (count_of_locals program before.frame.spot.function) reached.base)
       (given : Value) (is : given ≡ value_held (held before.store reached.base reached.offset)) where
-    -- the scalar was set
+    -- the check that the scalar was set
     abbrev pub set_part : Valuation → Act CodeState → Act CodeState
     set_part v act = set_then at (cell_in names.bases before given v) act
 
@@ -225,7 +225,7 @@ module _ (program : TypedProgram) (names : Naming) (known : ℕ → Bool) (befor
             → Passes names.bases before earlier later checked set_part
         kept checked passes = subst (λ (s : State). Passes names.bases s earlier later checked set_part) same passes
 
-        -- a fault stands first
+        -- a fault comes first
         pub check_waits : (answer : Result Temporary Pause) (why : Pause) → IsErr answer × IsErrAnd answer (λ e. e ≡ why)
             → Passes {T = T} names.bases middle earlier later (Err why) set_part
             → Loads program names before middle earlier later answer (scalar_part program names before at reached)

@@ -9,7 +9,7 @@ use Rattle.cs_regions.specs.declared.base.Base.{Base}
 use Rattle.cs_state.specs.Cells.{object_of, pointer_to}
 use Rattle.cs_steps.specs.Reaching.{reaches}
 
--- the pointer to what a place points to, whose offset has this number
+-- a pointer into a named base region, whose offset is this number, reaches this location
 pub reached_is : (base : Option Base) (at : Place) (offset : ℤ) (number : ℕ) (onward : Cell → Act CodeState) → base ≢ None → offset ≡ pos number
     → reaches at (pointer_to base offset) onward ≡ onward (pointer_to base (pos number))
 reached_is None at offset number onward named is = absurd (named refl)

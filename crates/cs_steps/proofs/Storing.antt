@@ -66,14 +66,14 @@ not_constant state at constant is v fits =
     no_fault w other holds = absurd (true≢false (sym holds))
 
 module _ (program : TypedProgram) (bases : List Base) (state : State) (at : Place) (cell : Valuation → Cell) where
-  -- what comes once a variable was reached
+  -- what follows after a location was reached
   abbrev pub to_store : (Cell → Act CodeState) → Cell → Act CodeState
   to_store onward place = direct at place (λ object n. writable program at object (onward (PointerCell object (pos n))))
 
   abbrev pub for_store : Valuation → (Cell → Act CodeState) → Act CodeState
   for_store v = reaches_for_store program at (cell v)
 
-  -- a local of a frame may be stored to
+  -- a local of a frame may be written
   local_writable : (frame count : ℕ) (reached : Reached) → IsLocalOf bases frame count reached.base → (v : Valuation) (onward : Cell → Act CodeState)
       → to_store onward (cell_reached bases reached v) ≡ onward (cell_reached bases reached v)
   local_writable frame count reached local v onward =
@@ -88,7 +88,7 @@ module _ (program : TypedProgram) (bases : List Base) (state : State) (at : Plac
         leads_on cells _ _ _ (for_store v onward) (to_store onward (cell_reached bases reached v)) (onward (cell_reached bases reached v))
         (located cells v fits (to_store onward)) (leads_same cells _ _ _ (local_writable frame count reached local v onward))
 
-    -- it was checked that it may be stored to
+    -- it was checked that it may be written
     pub for_store_through : (later : ℕ) → GetsThrough state middle later (λ v act. act)
         → Gives state earlier later for_store (cell_reached bases reached)
     for_store_through later through cells v fits onward =
@@ -101,13 +101,13 @@ module _ (program : TypedProgram) (bases : List Base) (state : State) (at : Plac
         waits_on cells _ _ (for_store v onward) (onward (cell_reached bases reached v)) bases state v first
         (for_store_leads cells v fits onward) (waits (onward (cell_reached bases reached v)) cells v fits)
 
-  -- where it is waited for to be reached
+  -- reaching it is waited for
   pub for_store_waits : (earlier : ℕ) (first : Next)
       → ((onward : Cell → Act CodeState) → WaitsFor bases state earlier first (λ v. reaches at (cell v) onward))
       → (onward : Cell → Act CodeState) → WaitsFor bases state earlier first (λ v. for_store v onward)
   for_store_waits earlier first waits onward = waits (to_store onward)
 
--- a change that changes nothing
+-- the identity changes nothing in memory
 unchanged_memory : (object : Object) (memory : Memory) → memory ≡ changed (λ block. block) object memory
 unchanged_memory object memory = fun_ext (λ other. at (same_object object other) (memory other))
   where
@@ -147,7 +147,7 @@ module _ (program : TypedProgram) (names : Naming) (known : ℕ → Bool) (befor
         locals = locals_bound before after rest program names known alone reached.base reached.offset given here elsewhere gone others within;
       }) inside
 
-  -- no struct is
+  -- a struct isn't
   pub no_struct : {A : Type 0} (stored : Temporary) (given : List Value) → stored ≡ temporary.Whole given
       → AreIn program names.bases known before.frame stored → A
   no_struct stored given is inside = absurd (subst (AreIn program names.bases known before.frame) is inside)
@@ -160,7 +160,7 @@ module _ (program : TypedProgram) (names : Naming) (known : ℕ → Bool) (befor
     memory_after v object offset =
         changed (write_operand program access.ty offset (operand_of names.bases before.blocks v stored)) object (memory_in program names before v)
 
-    -- what comes once a variable was reached
+    -- what follows after a location was reached
     abbrev object_stored : Valuation → (Memory → Act CodeState) → Object → ℕ → Act CodeState
     object_stored v onward object offset =
         touches_then (λ declaration. StoreTouch before.frame.number declaration at) access.local (onward (memory_after v object offset))
@@ -171,14 +171,14 @@ module _ (program : TypedProgram) (names : Naming) (known : ℕ → Bool) (befor
     abbrev reaching : Valuation → (Cell → Act CodeState) → Act CodeState
     reaching v = reaches_for_store program access.at (cell_in names.bases before place v)
 
-    -- a direct store begins with what reaches the variable
+    -- a direct store begins with reaching the location
     store_is : (v : Valuation) (onward : Memory → Act CodeState) → part v onward ≡ reaching v (arrived v onward)
     store_is v onward =
         let cell = cell_in names.bases before place v in
         let next : Object → ℕ → Act CodeState = λ object offset. writable program access.at object (object_stored v onward object offset) in
         ap (λ b. if b then direct access.at cell next else reach program (memory_in program names before v) access.at access.ty cell next) integer.direct
 
-    -- where it is waited for to be reached, nothing is stored yet
+    -- if reaching it is waited for, nothing was stored yet
     pub store_waits : (earlier : ℕ) (first : Next)
         → ((onward : Cell → Act CodeState) → WaitsFor names.bases before earlier first (λ v. reaching v onward))
         → (onward : Memory → Act CodeState) → WaitsFor names.bases before earlier first (λ v. part v onward)
@@ -197,7 +197,7 @@ module _ (program : TypedProgram) (names : Naming) (known : ℕ → Bool) (befor
           ∙ ap (λ (memory : Memory). touches_then (λ declaration. StoreTouch before.frame.number declaration at) access.local (onward memory))
           (sym (written.memory (Local frame local.declaration) local.named v))
 
-      -- what was reached is stored to
+      -- the location that was reached is written
       pub stored_through : Gives before earlier later part (λ v. memory_in program names after v)
       stored_through cells v fits onward =
           let next = onward (memory_in program names after v) in
@@ -211,7 +211,7 @@ module _ (program : TypedProgram) (names : Naming) (known : ℕ → Bool) (befor
 
   module _ (after : State) (earlier later : Progress) {T : Type 0} (answer : Result T Pause)
       (part : Valuation → (Memory → Act CodeState) → Act CodeState) where
-    -- what is handed on as an error is waited for, and has changed nothing
+    -- an error that is returned is waited for, and has changed nothing
     pub store_handed : (why : Pause) → IsErr answer × IsErrAnd answer (λ e. e ≡ why)
         → (why ≡ pause.Waits → (after ≡ before)
         × ((onward : Memory → Act CodeState) → WaitsFor names.bases before earlier.used later.first (λ v. part v onward)))

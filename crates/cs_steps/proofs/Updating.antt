@@ -89,7 +89,7 @@ module _ (code : Code) (names : Naming) (program : TypedProgram) (budgets : RunB
   abbrev part : Valuation → (ℤ → Act CodeState) → Act CodeState
   part = updates code names program before model at operator works_in (integer_of access.ty)
 
-  -- what comes once the number is there
+  -- what follows with the number
   abbrev next : Point → Valuation → ℤ → Act CodeState
   next todo v number =
       let m = stands code names program before todo v in
@@ -99,7 +99,7 @@ module _ (code : Code) (names : Naming) (program : TypedProgram) (budgets : RunB
   update_is todo v =
       ap (λ (d : DataModel). update_part d at operator works_in (integer_of access.ty) (meaning code names program before) v (next todo v)) same
 
-  -- where its number is waited for, nothing is stored yet
+  -- if its number is waited for, nothing was stored yet
   pub update_waits : (earlier : ℕ) (first : Next) → ((onward : ℤ → Act CodeState) → WaitsFor names.bases before earlier first (λ v. part v onward))
       → (todo : Point) → WaitsFor names.bases before earlier first (λ v. update_act (stands code names program before todo v))
   update_waits earlier first waits todo cells v fits =

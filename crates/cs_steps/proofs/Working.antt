@@ -48,7 +48,7 @@ module _ (code : Code) (names : Naming) (program : TypedProgram) (known : ℕ �
   abbrev pub IsWork : Type 0
   IsWork = Works code names program known before after earlier later answer act
 
-  -- what is handed on as an error is waited for, and has changed nothing
+  -- an error that is returned is waited for, and has changed nothing
   pub works_handed : (why : Pause) → IsErr answer × IsErrAnd answer (λ e. e ≡ why)
       → (why ≡ pause.Waits → (after ≡ before)
       × ((todo : Point) → WaitsFor names.bases before earlier.used later.first (λ v. act (stands code names program before todo v))))
@@ -64,7 +64,7 @@ module _ (code : Code) (names : Naming) (program : TypedProgram) (known : ℕ �
         unchanged = λ so. (waits (sym is.1 ∙ so)).0;
       }
 
-  -- the act goes on with the state that is left, which is one of locals alone
+  -- the run continues with the state after the work, whose pointers point to locals only
   pub record IsDone : Type 0 where
     pub stays : StaysInFrame before after
     pub locals : HasLocalsAlone program names.bases known after
@@ -91,7 +91,7 @@ module _ (code : Code) (names : Naming) (program : TypedProgram) (known : ℕ �
 
   module _ (middle : State) (rest : middle ≡ writes.with_memory middle.store middle.read before)
       (locals : HasLocalsAlone program names.bases known middle) where
-    -- the act leads to memory that was written, and to a temporary that stands in place of some
+    -- the act leads to memory that was written, and to a temporary that replaces some
     pub works_replaced : (count : ℕ) (left : Temporary) → AreIn program names.bases known before.frame left
         → OnOk answer (IsReplaced count left middle after) → OnOk answer (MeansReplaced count left middle after)
         → IfErr answer (λ why. why ≡ pause.Memory)
@@ -117,7 +117,7 @@ module _ (code : Code) (names : Naming) (program : TypedProgram) (known : ℕ �
                 (pop_many count (meaning code names program before v)))
             same v = λ i. push (operand_of names.bases ((rest i).blocks) v left) (pop_many count (written_means before middle rest program names code v i))
 
-    -- the same where some temporaries are dropped
+    -- the same if some temporaries are popped
     pub works_dropped : (count : ℕ) → OnOk answer (IsDropped count middle after) → OnOk answer (MeansDropped count middle after)
         → IfErr answer (λ why. why ≡ pause.Memory)
         → ((todo : Point) → AllLead code names program before earlier.used later.used (λ v. act (stands code names program before todo v))

@@ -75,7 +75,7 @@ module _ {V : Type 0} where
     rising_numbers es (keyed_rest e es keyed) (and_second _ _ sorted),
   )
 
-  -- an entry is what its key finds
+  -- looking up an entry's key finds the entry
   found_entry : (es : EntryList V) (k : ℕ) (d : (ℕ × ℕ) × V) → T (is_sorted key_cmp es) → k < length es
       → find key_cmp (get_or es k d).0 es ≡ Some (get_or es k d).1
   found_entry es k d sorted within =
@@ -138,7 +138,7 @@ listing contents offsets =
           );
     }
 
--- what is there is kept, where it holds something
+-- a region that holds something is in the store
 kept_contents : (o : Option Contents) (contents : Contents) → unwrap_or o (filled Unset) ≡ contents → ¬ HoldsNothing contents → o ≡ Some contents
 kept_contents None contents e h = absurd (h (subst (λ (z : Contents). HoldsNothing z) e (held_filled Unset)))
 kept_contents (Some c) contents e h = ap (λ z. Some z) e

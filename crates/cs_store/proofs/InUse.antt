@@ -26,14 +26,14 @@ bound_something contents o v e nothing = other (sym e ∙ nothing o)
     other : found.Direct v ≡ found.Fill Unset → ⊥
     other e = absurd (cc)
 
--- so does one with another fill than unset
+-- and so does one with a fill other than unset
 pub filled_something : (fill : Fill) → fill ≢ Unset → ¬ HoldsNothing (filled fill)
 filled_something fill differ nothing = differ (same (sym (held_filled fill 0) ∙ nothing 0))
   where
     same : found.Fill fill ≡ found.Fill Unset → fill ≡ Unset
     same e = cc
 
--- and one to which leaves were bound
+-- and one with bound leaves
 pub leaves_something : (leaves : List (ℕ × Value)) (contents : Contents) (before : ℕ → Binding) → false ≡ (length leaves == 0)
     → ((o : ℕ) → held_in contents o ≡ after_leaves leaves o (before o)) → ¬ HoldsNothing contents
 leaves_something [] contents before some e = absurd (false≢true some)
@@ -73,7 +73,7 @@ pub in_use_less : (store fewer : Regions)
     → AreInUse store → AreInUse fewer
 in_use_less store fewer kept all key contents e = all key contents (kept key contents e)
 
--- what is left after a removal was there
+-- what remains after a removal was there
 pub left_was_there : (store : Regions) (k key : ℕ × ℕ) (contents : Contents) → finite.get (finite.remove store k) key ≡ Some contents
     → finite.get store key ≡ Some contents
 left_was_there store k key contents e = by (eq_by_cmp key_cmp key k) (sym (finite.get-remove key_cmp_total store k key) ∙ e)
@@ -82,7 +82,7 @@ left_was_there store k key contents e = by (eq_by_cmp key_cmp key k) (sym (finit
     by true here = absurd (none-some contents here)
     by false here = here
 
--- a region that was removed holds nothing, and any other one what it held
+-- a region that was removed holds nothing, and any other one what it held before
 pub held_removed : (store : Regions) (b o : ℕ) → held (finite.remove store (b, 0)) b o ≡ found.Fill Unset
 held_removed store b o =
     no_lookup (finite.remove store (b, 0)) b o (finite.get-remove key_cmp_total store (b, 0) (b, 0)

@@ -22,7 +22,7 @@ use Rattle.cs_store.specs.declared.value.Binding.TheVariants.{Direct}
 use Rattle.cs_store.specs.Contents.{Contents, HasOffsets, held_in, with_binding, keyed, after_leaves, last_leaf}
 use Rattle.cs_store.proofs.Regions.{bound_here, bound_elsewhere}
 
--- a choice between two options, over what stands for none
+-- a choice between two options, with a default
 pub chosen : {A B : Type 0} (f : A → B) (p q : Option A) (d : B) → option_map_or f (option_or p q) d ≡ option_map_or f p (option_map_or f q d)
 chosen f None q d = refl
 chosen f (Some x) q d = refl
@@ -53,7 +53,7 @@ leaf_first leaf leaves old o =
     ap (after_leaves leaves o) (bound old leaf.0 leaf.1 o)
     ∙ sym (chosen (λ value. Direct value) (last_leaf leaves o) (cond (nat_eq leaf.0 o) (Some leaf.1) None) (held_in old o))
 
--- leaves that are bound all at once are bound one by one; `start`, `entries` and `direct` are what the call has
+-- binding leaves all at once binds them one by one; `start`, `entries` and `direct` are those of the call
 leaves_inserted : (leaves : List (ℕ × Value)) (old : Contents) (o : ℕ)
     → held_in (record { fill = old.fill; direct = insert_all old.direct (keyed leaves) }) o ≡ after_leaves leaves o (held_in old o)
 leaves_inserted [] old o = refl
@@ -80,7 +80,7 @@ key_test b c =
       | inr other ↦ other_key b c other.1 ∙ sym other.0
     ]
 
--- one more base region is out
+-- one more base region was removed
 pub bases_step : {V : Type 0} (bases : List ℕ) (i : ℕ) (m : FinMap key_cmp V) (b : ℕ) → i < length bases
     → cond (list_any (λ x. nat_eq b x) (drop (i + 1) bases)) None (get (remove m (get_or bases i 0, 0)) (b, 0))
     ≡ cond (list_any (λ x. nat_eq b x) (drop i bases)) None (get m (b, 0))
@@ -91,7 +91,7 @@ bases_step bases i m b more =
     ∙ taken_out (nat_eq b base) rest (get m (b, 0))
     ∙ ap (λ bs. cond (list_any (λ x. nat_eq b x) bs) None (get m (b, 0))) (sym (drop_more bases i 0 more))
 
--- one more write is done
+-- one more write was done
 pub writes_step : (writes : List Write) (i : ℕ) (d : Write) (b o : ℕ) (before : Binding) → i < length writes
     → unwrap_or (last_decided (drop (i + 1) writes) b o) (unwrap_or (decided (get_or writes i d) b o) before)
     ≡ unwrap_or (last_decided (drop i writes) b o) before

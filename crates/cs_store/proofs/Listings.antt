@@ -11,7 +11,7 @@ use Rattle.cs_terms.specs.declared.symbol.Sym.{Sym}
 use Rattle.cs_store.specs.declared.value.Value.{Value}
 use Rattle.cs_store.specs.Listings.{list_binding, symbol_in, symbols_in, listing_of}
 
--- a number that is there
+-- a number that exists
 pub is_there : (there : Bool) (given found : ℤ) → Some found ≡ then_some there given → (there ≡ true) × (found ≡ given)
 is_there true given found e = (refl, same_Some found given e)
 is_there false given found e = absurd (none-some found (sym e))
@@ -19,7 +19,7 @@ is_there false given found e = absurd (none-some found (sym e))
 abbrev Entry : Type 0
 Entry = ℕ × Value
 
--- what is written, and what is left, are all bindings
+-- the entries that are listed and those that remain are all bindings
 pub record IsPartlyListed (all : List Entry) (words : List ℕ) (symbols : List Sym) (count : ℕ) (left : List Entry) : Type 0 where
   pub written : fold list_binding words left ≡ fold list_binding [] all
   pub mentioned : symbols ++ symbols_in left ≡ symbols_in all

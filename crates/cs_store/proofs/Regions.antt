@@ -71,7 +71,7 @@ absent_from bases b absent = by (list_any (λ x. nat_eq b x) bases) refl
     by true found = absurd (absent (Contains-from_any eqb-true b bases found))
     by false none = none
 
--- what is held is nothing or what it was, as the base region is among those dropped
+-- a base region holds nothing if it was dropped, and otherwise what it held before
 pub dropped_or_kept : (bases : List ℕ) (b : ℕ) (new old : Binding) → (Contains bases b → new ≡ found.Fill Unset)
     → ((Contains bases b → ⊥) → new ≡ old)
     → new ≡ unwrap_or (cond (list_any (λ x. nat_eq b x) bases) (Some (found.Fill Unset)) None) old

@@ -31,7 +31,7 @@ module _ {V : Type 0} (m : finite.FinMap key_cmp V) where
   pub all_found : AreFound (finite.entries m)
   all_found = all_after [] (finite.entries m) refl
 
-  -- an entry that is put in once more
+  -- inserting an entry again changes nothing
   pub same_insert : (key : ℕ × ℕ) (v : V) → finite.get m key ≡ Some v → finite.insert m key v ≡ m
   same_insert key v there =
       finite.same_map key_cmp_total key_cmp_exact (finite.insert m key v) m

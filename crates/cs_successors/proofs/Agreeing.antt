@@ -114,7 +114,7 @@ module _ (known : ℕ → Bool) (one other : Valuation) (agree : (symbol : ℕ) 
         written = λ offset. contents_agree base offset i;
       }
 
-      -- objects hold the same
+      -- objects have the same cells
       memory_agrees : memory_of program names owners blocks other store ≡ memory_of program names owners blocks one store
       memory_agrees = λ i object.
           (ap (option_map (written_over (cell_of names.bases blocks other) (contents_in store (number_of names.bases object)))) (unwritten_agrees object)
@@ -126,7 +126,7 @@ module _ (known : ℕ → Bool) (one other : Valuation) (agree : (symbol : ℕ) 
           over base None = refl
           over base (Some block) = ap Some (written_agrees base block)
 
--- a state of locals alone, without blocks
+-- a state whose pointers only point to locals, without blocks
 pub means_alike : (known : ℕ → Bool) (one other : Valuation) → ((symbol : ℕ) → known symbol ≡ true → other symbol ≡ one symbol)
     → (code : Code) (names : Naming) (program : TypedProgram) (state : State) → HasLocalsAlone program names.bases known state
     → ((base : ℕ) → block_of state.blocks base ≡ None)

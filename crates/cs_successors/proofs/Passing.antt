@@ -14,7 +14,7 @@ same_tail : (one other : Step) (more : List Step) → other ∷ [] ≡ one ∷ m
 same_tail one other more e = cc
 
 module _ {M : Type 0} (step : M → Act M) (setting : Setting) where
-  -- some step is passed
+  -- at least one step is passed
   pub passes_some : {first : First M} {left : Act M} {log : Log} {steps : List Step} → LeavesAfter step setting first steps left log → steps ≡ [] → ⊥
   passes_some (now e) none = cc
   passes_some (later e rest) none = cc
@@ -28,7 +28,7 @@ module _ {M : Type 0} (step : M → Act M) (setting : Setting) where
       (subst (λ before. LeavesAfter step setting (first_of setting before last) steps rest end) (sym same) leaves)
   after_silence (quietly is onward) leaves = unseen is (after_silence onward leaves)
 
-  -- a way on which steps are passed
+  -- a path on which steps are passed
   as_way : {first : First M} {rest : Act M} {end : Log} {steps : List Step} (left : Act M) (log : Log) → first_of setting log left ≡ first
       → LeavesAfter step setting first steps rest end → Proceeds step setting left log steps rest end
   as_way left log is (now e) = passes (is ∙ e) (stays refl refl)
@@ -39,7 +39,7 @@ module _ {M : Type 0} (step : M → Act M) (setting : Setting) where
       → Proceeds step setting left log steps rest end
   as_proceeds {left = left} {log = log} leaves = as_way left log refl leaves
 
-  -- two things that stand first
+  -- what comes first is determined
   same_silent : (first : First M) (next other : M) (log end : Log) → first ≡ Silent next log → first ≡ Silent other end
       → (next ≡ other) × (log ≡ end)
   same_silent first next other log end e f =
@@ -66,7 +66,7 @@ module _ {M : Type 0} (step : M → Act M) (setting : Setting) where
   not_silent : {A : Type 0} (first : First M) (next : M) (outcome : Outcome) (log end : Log) → first ≡ Silent next log → first ≡ Ended outcome end → A
   not_silent first next outcome log end e f = cc
 
-  -- after one step nothing more is passed, and the same is left; or the others are, from what is left then
+  -- after this step nothing more is passed, and the same remains; or the other steps are passed, from what remains then
   abbrev pub GoesOn : Step → Act M → Log → List Step → Act M → Log → Type 0
   GoesOn one rest end steps left log = ((steps ≡ one ∷ []) × (rest ≡ left) × (end ≡ log))
       ⊎ ((more : List Step) × (steps ≡ one ∷ more) × LeavesAfter step setting (first_of setting end rest) more left log)
@@ -107,7 +107,7 @@ module _ {M : Type 0} (step : M → Act M) (setting : Setting) where
       → LeavesAfter step setting first (one ∷ []) rest end → LeavesAfter step setting first steps left log → GoesOn one rest end steps left log
   after_one {one = one} first all = after_step one first refl all
 
-  -- one step that is passed next is all that can come next
+  -- if one step is passed next, no other step can be
   pub one_alone : {first : First M} {rest left : Act M} {end log : Log} {one other : Step} → LeavesAfter step setting first (one ∷ []) rest end
       → LeavesAfter step setting first (other ∷ []) left log → (one ≡ other) × (rest ≡ left) × (end ≡ log)
   one_alone {one = one} {other = other} this that = elim (after_one this that) [
@@ -115,7 +115,7 @@ module _ {M : Type 0} (step : M → Act M) (setting : Setting) where
     | inr more ↦ absurd (passes_some more.2 (same_tail one other more.0 more.1))
   ]
 
-  -- where the next step is silent, what is passed is passed after it
+  -- if the next step is silent, the steps that are passed are passed after it
   past_silent : {Goal : Type 0} {steps : List Step} {rest : Act M} {end : Log} (next : M) (between : Log) (first : First M) → first ≡ Silent next between
       → (LeavesAfter step setting (first_of setting between (step next)) steps rest end → Goal) → LeavesAfter step setting first steps rest end → Goal
   past_silent next between first e onward (now {one = one} {left = left} {log = log} f) = not_both first next one left between log e f
@@ -135,12 +135,12 @@ module _ {M : Type 0} (step : M → Act M) (setting : Setting) where
       past_silent next between (first_of setting log left) is (λ more. past_silence onward empty more) leaves
   past_silence (passes is onward) empty leaves = cc
 
-  -- and what is passed after silent steps
+  -- and the same for several silent steps
   pub after_silent_steps : {left middle rest : Act M} {log between end : Log} {steps : List Step} → Proceeds step setting left log [] middle between
       → LeavesAfter step setting (first_of setting log left) steps rest end → LeavesAfter step setting (first_of setting between middle) steps rest end
   after_silent_steps way leaves = past_silence way refl leaves
 
-  -- a run that ends goes on so after one step
+  -- a run that ends still ends alike after its first step
   ends_step : {first : First M} {rest : Act M} {later_log end : Log} {passed steps : List Step} {outcome : Outcome} (one : Step)
       → LeavesAfter step setting first passed rest later_log → passed ≡ one ∷ [] → RunsTo step setting first steps outcome end
       → (more : List Step) × (steps ≡ one ∷ more) × RunsTo step setting (first_of setting later_log rest) more outcome end
@@ -175,7 +175,7 @@ module _ {M : Type 0} (step : M → Act M) (setting : Setting) where
       → (more : List Step) × (steps ≡ one ∷ more) × RunsTo step setting (first_of setting later_log rest) more outcome end
   ends_after_one {one = one} first runs = ends_step one first refl runs
 
-  -- where a run ends without a further event, nothing more is passed
+  -- if a run ends without a further event, nothing more is passed
   at_end : {left last : Act M} {log before end : Log} {steps none : List Step} {rest : Act M} {after : Log} {outcome : Outcome}
       → Proceeds step setting left log none last before → none ≡ [] → first_of setting before last ≡ Ended outcome end
       → LeavesAfter step setting (first_of setting log left) steps rest after → ⊥
@@ -209,7 +209,7 @@ module _ {M : Type 0} (step : M → Act M) (setting : Setting) where
       → LeavesAfter step setting (first_of setting log left) steps rest after → ⊥
   leaves_no_end way ended leaves = at_end way refl ended leaves
 
-  -- and the run ends so
+  -- and the run ends there
   pub record IsThatEnd (steps : List Step) (outcome other : Outcome) (log end : Log) : Type 0 where
     pub none : steps ≡ []
     pub outcome_is : other ≡ outcome

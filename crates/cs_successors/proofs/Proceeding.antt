@@ -10,7 +10,7 @@ use Rattle.cs_event_runs.specs.First.{Step, First, Silent, Shown, Ended, first_o
 use Rattle.cs_event_runs.proofs.Firsts.{performs_first, HasEvents, adds_first}
 use Rattle.cs_successors.specs.EntryRuns.{LeavesAfter, later as follows, unseen, Proceeds, stays, silently, shows}
 
--- a log isn't shorter than one that it goes on from
+-- a log that continues another one has at least as many events
 as_long : (log later : Log) → GoesOn log later → length log.events ≤ length later.events
 as_long log later more =
     let all = ap length more.events.1 in
@@ -18,7 +18,7 @@ as_long log later more =
     omega (arith, all, both)
 
 module _ {M : Type 0} (step : M → Act M) (setting : Setting) where
-  -- one way after another
+  -- two paths, one after the other
   pub proceeds_on : {left middle last : Act M} {log between end : Log} {steps more : List Step} → Proceeds step setting left log steps middle between
       → Proceeds step setting middle between more last end → Proceeds step setting left log (steps ++ more) last end
   proceeds_on {last = last} {end = end} {more = more} (stays {last = middle} {log = log} is same) onward =
@@ -27,7 +27,7 @@ module _ {M : Type 0} (step : M → Act M) (setting : Setting) where
   proceeds_on (silently is rest) onward = silently is (proceeds_on rest onward)
   proceeds_on (shows is rest) onward = shows is (proceeds_on rest onward)
 
-  -- a way, and more steps after it
+  -- a path, and more steps after it
   pub leaves_on : {left middle last : Act M} {log between end : Log} {steps more : List Step} → Proceeds step setting left log steps middle between
       → LeavesAfter step setting (first_of setting between middle) more last end
       → LeavesAfter step setting (first_of setting log left) (steps ++ more) last end
@@ -37,7 +37,7 @@ module _ {M : Type 0} (step : M → Act M) (setting : Setting) where
   leaves_on (silently is rest) onward = unseen is (leaves_on rest onward)
   leaves_on (shows is rest) onward = follows is (leaves_on rest onward)
 
-  -- a way, and what shows after it
+  -- a path, and the step shown after it
   pub shows_on : {left middle : Act M} {log between : Log} {steps more : List Step} {one : Step} → Proceeds step setting left log steps middle between
       → ShowsAfter step setting (first_of setting between middle) more one → ShowsAfter step setting (first_of setting log left) (steps ++ more) one
   shows_on {more = more} {one = one} (stays {last = middle} {log = log} is same) onward =
@@ -46,7 +46,7 @@ module _ {M : Type 0} (step : M → Act M) (setting : Setting) where
   shows_on (silently is rest) onward = shown_unseen is (shows_on rest onward)
   shows_on (shows is rest) onward = shown_later is (shows_on rest onward)
 
-  -- what goes on and adds no event is silent
+  -- what continues and adds no event is silent
   module _ (log : Log) (act : Act M) (next : M) (later : Log) (short : length later.events ≤ length log.events) where
     shows_nothing : (first : First M) → HasEvents setting log.events first → performed setting first ≡ Continues next later
         → first ≡ Silent next later
@@ -64,7 +64,7 @@ module _ {M : Type 0} (step : M → Act M) (setting : Setting) where
     silent_act : perform setting log act ≡ Continues next later → first_of setting log act ≡ Silent next later
     silent_act is = shows_nothing (first_of setting log act) (adds_first setting log act) (sym (performs_first setting log act) ∙ is)
 
-  -- a run that leads on and adds no event shows nothing
+  -- a run that continues and adds no event shows nothing
   pub leads_silently : {m last : M} {log end : Log} → Leads step setting m log last end → length end.events ≤ length log.events
       → Proceeds step setting (step m) log [] (step last) end
   leads_silently (rests is same) short = stays (ap step is) same

@@ -33,7 +33,7 @@ wanted_once_more counts place chosen outcome at = record {
 
 -- ---- the ranks
 
--- the numbers of the ends before one
+-- the numbers of the ends before an index
 pub record RankedSoFar (ends : List End) (count : ℕ) (numbers : List ℕ) : Type 0 where
   pub each : AreOfFindings ends numbers
   pub all : (number : ℕ) → number < count → (end : End) → slice_get ends number ≡ Some end → IsFinding end.outcome → Contains numbers number
@@ -78,7 +78,7 @@ all_ranked ends count numbers all so_far number end at finding =
     let within = slice_get_within ends number end at in
     so_far.all number (omega (arith, within, all)) end at finding
 
--- in another order
+-- the same numbers in another order
 moved : (numbers others : List ℕ) → IsPermutation numbers others → (number : ℕ) → Contains numbers number → Contains others number
 moved numbers others same number among =
     All-contains (Contains others) numbers number
@@ -100,7 +100,7 @@ all_sorted ends ranks sorted same all number end at finding =
 abbrev pub no_rank : Rank
 no_rank = record { guesses = false; events = 0; number = 0 }
 
--- of the ranks so far: each outcome that is counted has a chosen end, and so has that of each rank
+-- among the ranks so far: each counted outcome has a chosen end, and so has the outcome of each rank
 pub record ChosenSoFar (ends : List End) (ranked : List ℕ) (outcomes : List Outcome) (numbers : List ℕ) : Type 0 where
   pub each : AreOfFindings ends numbers
   pub counted : (outcome : Outcome) → Contains outcomes outcome → IsChosen ends numbers outcome
@@ -160,7 +160,7 @@ pub next_number : (ranks : List Rank) (k : ℕ) (default : Rank) → k < length 
 next_number ranks k default within =
     ap numbers_of (take_more ranks k default within) ∙ map-append (λ (rank : Rank). rank.number) (take k ranks) (get_or ranks k default ∷ [])
 
--- a rank is that of an end, which is a finding
+-- a rank is that of an end that is a finding
 pub ranked_end : (ends : List End) (ranks : List Rank) (k : ℕ) (default : Rank) → k < length ranks → AreOfFindings ends (numbers_of ranks)
     → (end : End) × (slice_get ends (get_or ranks k default).number ≡ Some end) × IsFinding end.outcome
 ranked_end ends ranks k default within each =

@@ -17,7 +17,7 @@ Noted = List ((ℕ × ℕ) × Asked)
 abbrev asked_of : Noted → List Asked
 asked_of entries = map (λ entry. entry.1) entries
 
--- what is made so far, and what is still to come
+-- the guesses made so far, and those that remain
 abbrev pub AreMadeSoFar : Naming → Sets → Guessed → List SuspectedGuess → Noted → Type 0
 AreMadeSoFar names sets guessed made rest = (v : Valuation) → IsSolution sets v
     → made ++ map (suspected names v) (asked_of rest) ≡ map (suspected names v) (finite.values guessed)

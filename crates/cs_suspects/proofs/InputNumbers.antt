@@ -26,7 +26,7 @@ equal_by Less e = absurd (true≢false (sym e))
 equal_by Equal e = refl
 equal_by Greater e = absurd (true≢false (sym e))
 
--- a symbol stands for an input exactly where its name is that input's
+-- a symbol is that of an input exactly if its name is the input's
 pub is_input_itself : (p : Path) → is_input_at p (Input p) ≡ true
 is_input_itself p = equal_by (path_order p p) ((eq_by_cmp_equiv path_order-total).refl p)
 
@@ -39,7 +39,7 @@ pub is_input_same : (p : Path) (name : SymName) → is_input_at p name ≡ true 
 is_input_same p (Input q) e = ap Input (sym (path_order-tie p q (tied (path_order p q) e)))
 is_input_same p (Guess event) e = absurd (true≢false (sym e))
 
--- what comes of a set
+-- setting a path's number
 pub put_number : (p : Path) (number : ℤ) (before after : List (Path × ℤ)) → number_at after p ≡ number
     → ((q : Path) → q ≢ p → number_at after q ≡ number_at before q) → IsPut (Input p) number before after
 put_number p number before after here elsewhere = record {
@@ -51,7 +51,7 @@ put_number p number before after here elsewhere = record {
     of_input : (one other : Path) → Input one ≡ Input other → other ≡ one
     of_input one other same = cc
 
--- a path with no symbol has 0
+-- a path without a symbol has the number 0
 none_has : (names : List SymName) (v : Valuation) (p : Path) → ((k : ℕ) → slice_get names k ≡ Some (Input p) → ⊥) → input_of names v p ≡ pos 0
 none_has [] v p none = refl
 none_has (name ∷ names) v p none = by (is_input_at p name) refl (none_has names (λ symbol. v (suc symbol)) p (λ k there. none (suc k) there))
@@ -60,7 +60,7 @@ none_has (name ∷ names) v p none = by (is_input_at p name) refl (none_has name
     by true e later = absurd (none 0 (ap Some (is_input_same p name e)))
     by false e later = ap (λ t. cond t (v 0) (input_of names (λ symbol. v (suc symbol)) p)) e ∙ later
 
--- one more symbol: a path that it stands for has its number, where no other stood for it, and all others have theirs
+-- one more symbol: the path of its input has its number, if no earlier symbol has this path; all other paths keep theirs
 here_more : (names : List SymName) (v : Valuation) (p : Path) (name : SymName) → is_input_at p name ≡ true
     → ((k : ℕ) → slice_get names k ≡ Some (Input p) → ⊥) → input_of (names ++ name ∷ []) v p ≡ v (length names)
 here_more [] v p name is none = ap (λ t. cond t (v 0) (pos 0)) is

@@ -15,7 +15,7 @@ use Rattle.cs_results.specs.declared.result.Cut.TheVariants.{Nodes, Splits}
 use Rattle.cs_findings.specs.GoodEntries.{cut_key, cut_order, AreCutsListed}
 use Rattle.cs_suspects.specs.Spots.{Spot, place_of, spot_order, cut_of_access, cut_of_nodes, IsNodes, IsSplits, HasNodesOf}
 
--- where an access with a number of offsets is listed
+-- the key of an access with a number of offsets
 abbrev entry_key : Spot × ℕ → ℕ × Place
 entry_key entry = cut_key (cut_of_access entry)
 
@@ -59,7 +59,7 @@ are_listed nodes before after entries first all sorted =
     = ap (map cut_key) all ∙ map-append cut_key before (map cut_of_access entries) ∙ ap (λ keys. map cut_key before ++ keys) (access_keys entries) in
     subst (IsStrictlySortedBy cut_order) (sym (keys ∙ ap (λ cuts. map cut_key cuts ++ map entry_key entries) first)) (keys_sorted nodes entries sorted)
 
--- a cut that is listed for want of nodes is the one that was found
+-- a listed cut of the nodes is the one that was found
 is_found : (nodes : Option ℕ) (cuts : List Cut) → MatchOption nodes (All IsSplits cuts) (λ found. Contains cuts (Nodes found)) → (listed : ℕ)
     → Contains (cut_of_nodes nodes) (Nodes listed) → Contains cuts (Nodes listed)
 is_found None cuts found listed (place, within, at) = absurd (omega (arith, within))
@@ -82,7 +82,7 @@ has_nodes_of nodes cuts before after entries first all found listed among =
     accesses : All (λ (cut : Cut). cut ≢ Nodes listed) (map cut_of_access entries)
     accesses = All-map (λ (cut : Cut). cut ≢ Nodes listed) cut_of_access entries (λ place default inside. no_access (get_or entries place default))
 
--- ---- where nothing is listed
+-- ---- if nothing is listed
 
 -- a cut is of one of the two kinds
 neither : (cut : Cut) → IsSplits cut → IsNodes cut → ⊥
@@ -105,7 +105,7 @@ nothing_cut (Some nodes) cuts before after entries first all found none nothing 
     let listed : Nodes nodes ∷ map cut_of_access entries ≡ [] = sym (all ∙ ap (λ (l : List Cut). l ++ map cut_of_access entries) first) ∙ nothing in
     absurd (cc)
 
--- where no access was cut, none is listed
+-- if no access was cut, none is listed
 pub nodes_alone : (nodes : Option ℕ) (cuts before after : List Cut) (entries : List (Spot × ℕ)) → before ≡ cut_of_nodes nodes
     → after ≡ before ++ map cut_of_access entries → (All IsNodes cuts → entries ≡ []) → All IsNodes cuts → All IsNodes after
 nodes_alone nodes cuts before after entries first all none alone =

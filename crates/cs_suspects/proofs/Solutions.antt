@@ -12,7 +12,7 @@ use Rattle.cs_constraints.specs.Constraints.{Sets, set_of, AreInhabited}
 use Rattle.cs_suspects.specs.Suspected.{IsSolution}
 use Rattle.cs_suspects.specs.Solved.{IsNumberOf}
 
--- of two numbers that are nearest to zero each is the other
+-- two numbers that are both nearest to zero are equal
 nearest_both : (x y : ℤ) → IsNearest x y → IsNearest y x → x ≡ y
 nearest_both x y one other = grind (arith, ints)
 
@@ -50,13 +50,13 @@ least_of p n passes = elim (least_or_none p (suc n)) [
   | inr none ↦ absurd (true≢false (sym passes ∙ none n (omega arith)))
 ]
 
--- a number is its distance from zero, or the opposite
+-- a number is its distance from zero, or the negative of this
 sides : (x : ℤ) → (x ≡ pos (unsigned_abs x)) ⊎ (x ≡ neg_ℤ (pos (unsigned_abs x)))
 sides (pos n) = inl (omega (arith, ints))
 sides (negsuc n) = inr (omega (arith, ints))
 
 module _ (set : List Interval) where
-  -- a number of the set is so far from zero
+  -- some number of the set has this distance from zero
   is_at : ℕ → Bool
   is_at distance = contains set (pos distance) || contains set (neg_ℤ (pos distance))
 
@@ -68,7 +68,7 @@ module _ (set : List Interval) where
   ]
 
   module _ (nearest : LeastOf is_at) where
-    -- the positive one of two
+    -- the positive one of the two
     least_abs_up : contains set (pos nearest.number) ≡ true → IsLeastAbs set (pos nearest.number)
     least_abs_up member = record {
       member = member;
@@ -141,7 +141,7 @@ has_solution sets inhabited = (
   },
 )
 
--- the number that is found for a symbol is that of the solution
+-- the number found for a symbol is that of the solution
 pub is_number : (sets : Sets) (s : ℕ) (found : Option ℤ)
     → MatchOption found (set_of sets s ≡ None) (λ number. (set : List Interval) × (set_of sets s ≡ Some set) × IsLeastAbs set number)
     → IsNumberOf sets s (unwrap_or found (pos 0))

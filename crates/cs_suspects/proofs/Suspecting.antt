@@ -9,7 +9,7 @@ use Rattle.cs_suspect_types.specs.declared.suspect.Suspect.{Suspect}
 use Rattle.cs_suspects.specs.Chosen.{AreAllChosen}
 use Rattle.cs_suspects.specs.Suspected.{IsSuspectOf, AreSuspectsOf, AreAllSuspected}
 
--- some suspect ends as this end does
+-- some suspect ends as the end does
 abbrev IsSuspected : List Suspect → End → Type 0
 IsSuspected suspects end = (suspect : Suspect) × Contains suspects suspect × (suspect.what ≡ end.outcome)
 

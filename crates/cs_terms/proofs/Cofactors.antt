@@ -15,7 +15,7 @@ pub div_euclid-floor : (z : ℤ) (n : ℕ) → int_div_euclid z (pos n) ≡ floo
 div_euclid-floor (pos a) n = refl
 div_euclid-floor (negsuc a) n = refl
 
--- a product with a natural number doesn't fall
+-- a product with a natural number is monotonic
 *ℤ-pos-mono : (x y : ℤ) (n : ℕ) → x ≤ℤ y → (x *ℤ pos n) ≤ℤ (y *ℤ pos n)
 *ℤ-pos-mono x y n le =
     let d = unsigned_abs (y -ℤ x) in
@@ -24,7 +24,7 @@ div_euclid-floor (negsuc a) n = refl
     ∙ ap (λ z. x *ℤ pos n +ℤ z) (pos-*ℤ-pos d n) in
     rw product (omega (arith, ints))
 
--- a product stays at most a number up to the rounded quotient
+-- a product is at most a number exactly up to the rounded quotient
 floor_bound : (x h : ℤ) (n : ℕ) → 0 < n → (x ≤ℤ floor_div h n → (x *ℤ pos n) ≤ℤ h) × ((x *ℤ pos n) ≤ℤ h → x ≤ℤ floor_div h n)
 floor_bound x h n lt =
     let q = floor_div h n in
@@ -52,7 +52,7 @@ int_le-true x y h = grind (arith, ints)
 int_le-false : (x y : ℤ) → y <ℤ x → int_le x y ≡ false
 int_le-false x y h = grind (arith, ints)
 
--- two tests that hold together are the same
+-- two equivalent comparisons have the same truth
 int_le-same : (a b c d : ℤ) → (a ≤ℤ b → c ≤ℤ d) → (c ≤ℤ d → a ≤ℤ b) → int_le a b ≡ int_le c d
 int_le-same a b c d there back = by_lt_z b a
     (λ lt.
@@ -63,7 +63,7 @@ int_le-same a b c d there back = by_lt_z b a
     outside : (a b : ℤ) → b <ℤ a → a ≤ℤ b → ⊥
     outside a b lt le = omega (arith, ints)
 
--- both tests turned round
+-- a comparison of negatives is reversed
 pub int_le-neg_ℤ : (a b : ℤ) → int_le (neg_ℤ a) (neg_ℤ b) ≡ int_le b a
 int_le-neg_ℤ a b = int_le-same (neg_ℤ a) (neg_ℤ b) b a (λ le. omega (arith, ints)) (λ le. omega (arith, ints))
 

@@ -21,7 +21,7 @@ use Rattle.cs_terms.specs.Near.{IsCut, IsAtValues, HasCofactors, HasQuotient, Ha
 use Rattle.cs_terms.specs.Pieces.{Quotients, IsPiece, IsFarPiece, ArePieces, HasOneQuotient, product_quotient_of}
 use Rattle.cs_terms.specs.Term.{value_with, value_at, IsTermWith, IsTerm}
 
--- a term is an affine function of its symbol
+-- a term's value is an affine function of its symbol's number
 pub value_with-affine : (symbol : Option Sym) (slope at value x : ℤ) → (IsNone symbol → slope ≡ pos 0)
     → value_with (λ s. x) symbol slope at value ≡ affine slope at value x
 value_with-affine None slope at value x e = rw (e refl, zero-*ℤ) (omega (arith, ints))
@@ -38,7 +38,7 @@ value_at-affine term x h = value_with-affine term.sym term.slope term.at term.va
 pub affine-inside : (term : Lin) (x : ℤ) → IsTerm term → IsInside (value_at term x) → IsInside (affine term.slope term.at term.value x)
 affine-inside term x h inside = subst IsInside (value_at-affine term x h) inside
 
--- integers of C lie inside
+-- integers of C are inside the bounds of sets
 pub IsInside-from_integer : (x : ℤ) → IsIntegerOfC x → IsInside x
 IsInside-from_integer x h = omega (arith, ints, h.from_least, h.to_greatest)
 
@@ -46,7 +46,7 @@ and-true : (a b : Bool) → (a && b) ≡ true → (a ≡ true) × (b ≡ true)
 and-true true b h = (refl, h)
 and-true false b h = absurd (cc)
 
--- on the range an interval decides by the term's value whether the quotient is this
+-- for the numbers of the range, the interval decides by the term's value whether they have this quotient
 pub Yields : Quotients → List Interval → Lin → ℤ → Interval → Type 0
 Yields quotient range term q values = (x : ℤ) → IsTrue (contains range x) → IsTrue (in_interval values (value_at term x)) ↔ (quotient x ≡ q)
 
@@ -69,7 +69,7 @@ false-from_not : (b : Bool) → ¬ (b ≡ true) → b ≡ false
 false-from_not true h = absurd (h refl)
 false-from_not false h = refl
 
--- a number of the range is in none of three pieces just where it has another quotient
+-- a number of the range is in none of the three pieces exactly if it has another quotient
 far_piece : (quotient : Quotients) (range under same past far : List Interval) → IsPiece quotient range (negsuc 0) under
     → IsPiece quotient range (pos 0) same → IsPiece quotient range (pos 1) past
     → ((x : ℤ) → contains far x ≡ (((contains range x && not (contains under x)) && not (contains same x)) && not (contains past x)))

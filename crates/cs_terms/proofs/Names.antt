@@ -25,7 +25,7 @@ eq = eq-value.it
 pub eq-laws : IsEquivalence eq
 eq-laws = search rules
 
--- roots and paths that `==` calls equal are the same
+-- roots and paths that are equal by `==` are the same
 root_eq-true : (a b : Root) → root_eq.it a b ≡ true → a ≡ b
 root_eq-true (Param a) (Param b) h = ap Param (same_bytes a b h)
 root_eq-true (Global a) (Global b) h = ap Global (same_bytes a b h)
@@ -45,7 +45,7 @@ path_eq-true a b h =
     let cells = same_bytes a.cells b.cells both.1 in
     λ i. record { root = roots i; cells = cells i }
 
--- names that `==` calls equal are the same
+-- names that are equal by `==` are the same
 pub eq-true : (x y : SymName) → eq x y ≡ true → x ≡ y
 eq-true (Input p) (Input q) h = ap Input (path_eq-true p q h)
 eq-true (Input p) (Guess q) h = absurd (cc)

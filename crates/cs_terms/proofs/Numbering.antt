@@ -10,7 +10,7 @@ use Rattle.std.proofs.lemmas.Option.{slice_get_within, get_or_from_slice_get}
 use Rattle.indexmap.specs.IndexMap.{insert_entry}
 use Rattle.cs_terms.specs.Table.{HasEachOnce, IsNumbered}
 
--- an item keeps its place where others are put after
+-- an item keeps its index if others are added after it
 slice_get-append : {A : Type 0} (xs ys : List A) (k : ℕ) (x : A) → slice_get xs k ≡ Some x → slice_get (xs ++ ys) k ≡ Some x
 slice_get-append [] ys k x h = absurd (cc)
 slice_get-append (y ∷ xs) ys zero x h = h
@@ -20,7 +20,7 @@ slice_get-last : {A : Type 0} (xs : List A) (x : A) → slice_get (xs ++ x ∷ [
 slice_get-last [] x = refl
 slice_get-last (y ∷ xs) x = slice_get-last xs x
 
--- a name that was numbered before keeps its number
+-- a name that had a number keeps it
 pub kept_number : {A : Type 0} (before after : List A) (name known : A) (place k : ℕ) → IsNumbered before name place after
     → slice_get before k ≡ Some known → slice_get after k ≡ Some known
 kept_number before after name known place k n h = elim n [
@@ -36,7 +36,7 @@ has_number before after name place n = elim n [
 ]
 
 module _ {K : Type 0} (eq : K → K → Bool) (laws : IsEquivalence eq) (same : (x y : K) → eq x y ≡ true → x ≡ y) where
-  -- keys that differ have one place each
+  -- different keys have one index each
   apart : (ks : List K) (j k : ℕ) (name : K) → IsDistinct eq ks → slice_get ks j ≡ Some name → slice_get ks k ≡ Some name → j < k → ⊥
   apart ks j k name distinct e f lt =
       let differ = apart_from_distinct eq ks j k name distinct lt (slice_get_within ks k name f) in
@@ -50,7 +50,7 @@ module _ {K : Type 0} (eq : K → K → Bool) (laws : IsEquivalence eq) (same : 
       let not_above = apart ks k j name distinct f e in
       omega (arith, not_below, not_above)
 
-  -- an insertion finds the name's number or gives it the next one
+  -- an insertion finds the name's number or assigns it the next one
   pub numbered_by_insert : (es : List (K × Unit {0})) (name : K)
       → IsNumbered (keys_of es) name (position_or_len (eq name) (keys_of es)) (keys_of (insert_entry eq es name tt))
   numbered_by_insert [] name = inr (λ h. absurd (omega (arith, h.1)), refl, refl)

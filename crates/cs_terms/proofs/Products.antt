@@ -24,7 +24,7 @@ use Rattle.cs_terms.proofs.Cutting.{value_at-affine}
 use Rattle.cs_terms.proofs.TypeRanges.{modulus-small}
 use Rattle.cs_terms.proofs.Values.{*ℤ-swap}
 
--- the product at one number seen from another
+-- the product at one number, from that at another one
 pub product-moves : (term : Lin) (factor x y : ℤ) → IsTerm term
     → value_at term x *ℤ factor ≡ value_at term y *ℤ factor +ℤ (term.slope *ℤ factor) *ℤ (x -ℤ y)
 product-moves term factor x y h =
@@ -35,7 +35,7 @@ product-moves term factor x y h =
     ∙ add-*ℤ (value_at term y) (term.slope *ℤ (x -ℤ y)) factor
     ∙ ap (λ n. value_at term y *ℤ factor +ℤ n) (*ℤ-swap term.slope (x -ℤ y) factor)
 
--- where the quotient stays, the wrapped number moves as the number
+-- while the quotient is the same, the wrapped number changes as the number does
 pub wrapped-moves : (model : DataModel) (ty : IntType) (z z' d : ℤ) → wrap_quotient model ty z ≡ wrap_quotient model ty z' → z ≡ z' +ℤ d
     → wrapped model ty z ≡ wrapped model ty z' +ℤ d
 wrapped-moves model ty z z' d q e =
@@ -45,7 +45,7 @@ wrapped-moves model ty z z' d q e =
     moved : (z z' d taken taken' : ℤ) → taken ≡ taken' → z ≡ z' +ℤ d → z -ℤ taken ≡ (z' -ℤ taken') +ℤ d
     moved z z' d taken taken' t e = omega (arith, ints)
 
--- a factor isn't larger than a product that isn't 0
+-- a factor isn't larger than a nonzero product
 pub abs-product : (p d : ℤ) → d ≢ pos 0 → unsigned_abs p ≤ unsigned_abs (p *ℤ d)
 abs-product p (pos zero) h = absurd (h refl)
 abs-product (pos a) (pos (suc n)) h = omega (arith, ints)
@@ -53,7 +53,7 @@ abs-product (pos a) (negsuc n) h = omega (arith, ints)
 abs-product (negsuc a) (pos (suc n)) h = omega (arith, ints)
 abs-product (negsuc a) (negsuc n) h = omega (arith, ints)
 
--- between two numbers with one quotient the product's slope isn't steeper than the type has numbers
+-- between two numbers with one quotient, the product's slope is at most the number of the type's values
 slope-fits : (model : DataModel) (ty : IntType) (z z' p d : ℤ) → d ≢ pos 0 → wrap_quotient model ty z ≡ wrap_quotient model ty z'
     → z ≡ z' +ℤ p *ℤ d → FitsSigned w128 p
 slope-fits model ty z z' p d h q e =
@@ -74,7 +74,7 @@ product_slope-fits model ty term factor range h one two =
     slope-fits model ty (value_at term two.one *ℤ factor) (value_at term two.another *ℤ factor) (term.slope *ℤ factor) (two.one -ℤ two.another)
     (λ e. two.differ (omega (arith, ints, e))) (one two.one two.another two.one_is_member two.another_is_member) moves
 
--- a range with one number has one place
+-- on a range with only one number the slope doesn't matter
 pub no-rise : (range : List Interval) (only x y p : ℤ) → IsOnly range only → contains range x ≡ true → contains range y ≡ true
     → pos 0 *ℤ (x -ℤ y) ≡ p *ℤ (x -ℤ y)
 no-rise range only x y p o h k =

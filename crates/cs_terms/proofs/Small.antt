@@ -14,7 +14,7 @@ use Rattle.cs_terms.specs.Term.{value_with, value_at, IsTerm}
 use Rattle.cs_terms.proofs.Cutting.{value_at-affine}
 use Rattle.cs_terms.proofs.Products.{abs-product}
 
--- a term has its value at its own number
+-- a term's value at its own number
 value_with-own : (symbol : Option Sym) (slope at value : ℤ) → value_with (λ s. at) symbol slope at value ≡ value
 value_with-own None slope at value = refl
 value_with-own (Some s) slope at value =
@@ -35,7 +35,7 @@ product_inside : (x factor : ℤ) → unsigned_abs x ≤ 2 ^ 65 → unsigned_abs
 product_inside x factor h k =
     inside (x *ℤ factor) (omega (arith, unsigned_abs-mul x factor, mul-le-mul h k))
 
--- two small terms that are seen from one number
+-- two small terms that are given at one number
 pub CanAdd-small : (left right : Lin) → IsSmall left → IsSmall right → AreSeenTogether left right → CanAdd left right
 CanAdd-small left right l r together =
     let left_inside = inside left.value (omega (arith, l.value)) in
@@ -72,7 +72,7 @@ CanScale-small term factor h k = record {
 pub integer_small : (x : ℤ) → IsIntegerOfC x → unsigned_abs x ≤ 2 ^ 64
 integer_small x h = omega (arith, ints, h.from_least, h.to_greatest)
 
--- between two numbers at which a term's values are integers of C it isn't steep
+-- between two numbers at which its values are integers of C, a term isn't steep
 pub slope_small : (term : Lin) (x y : ℤ) → IsTerm term → x ≢ y → IsIntegerOfC (value_at term x) → IsIntegerOfC (value_at term y)
     → unsigned_abs term.slope ≤ 2 ^ 65
 slope_small term x y h differ a b =

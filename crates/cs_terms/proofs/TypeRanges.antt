@@ -31,7 +31,7 @@ modulus-small model UInt = omega arith
 modulus-small model LLong = omega arith
 modulus-small model ULLong = omega arith
 
--- the quotient rounds down, so it is q just from q turns on to the next turn
+-- the quotient rounds down, so it is q exactly between q times the modulus and the next multiple
 from_quotient : (x q b taken : ℤ) (m : ℕ) → 0 < m → taken ≡ q *ℤ pos m → floor_div (x +ℤ b) m ≡ q
     → (((pos 0 -ℤ b) +ℤ taken) ≤ℤ x) × (x ≤ℤ ((((pos 0 -ℤ b) +ℤ taken) +ℤ pos m) -ℤ pos 1))
 from_quotient x q b taken m lt t e =
@@ -65,7 +65,7 @@ quotient_ends model ty q x low high e f =
       λ h. from_quotient x q b (q *ℤ pos m) m positive refl (sym shifted ∙ h),
     )
 
--- the same by the test of the interval
+-- the same with the interval's test
 pub quotient_test : (model : DataModel) (ty : IntType) (q x low high : ℤ) → low ≡ least_of model ty +ℤ q *ℤ pos (modulus_of model ty)
     → high ≡ (low +ℤ pos (modulus_of model ty)) -ℤ pos 1 → ((int_le low x && int_le x high) ≡ true) ↔ (wrap_quotient model ty x ≡ q)
 quotient_test model ty q x low high e f =
@@ -75,7 +75,7 @@ quotient_test model ty q x low high e f =
     both_true : (low x high : ℤ) → low ≤ℤ x → x ≤ℤ high → (int_le low x && int_le x high) ≡ true
     both_true low x high h k = grind (arith, ints)
 
--- at most one turn
+-- at most one modulus
 one_turn : (q : ℤ) (m : ℕ) → unsigned_abs q ≤ 1 → unsigned_abs (q *ℤ pos m) ≤ m
 one_turn (pos zero) m h = omega (arith, ints)
 one_turn (pos (suc zero)) m h = omega (arith, ints)
@@ -83,7 +83,7 @@ one_turn (pos (suc (suc n))) m h = absurd (omega arith)
 one_turn (negsuc zero) m h = omega (arith, ints)
 one_turn (negsuc (suc n)) m h = absurd (omega arith)
 
--- the ends of an interval one turn from 0 at most
+-- the ends of an interval at most one modulus from 0
 pub ends_narrow : (model : DataModel) (ty : IntType) (q low high : ℤ) → unsigned_abs q ≤ 1
     → low ≡ least_of model ty +ℤ q *ℤ pos (modulus_of model ty) → high ≡ (low +ℤ pos (modulus_of model ty)) -ℤ pos 1
     → (unsigned_abs low ≤ 2 ^ 65) × (unsigned_abs high ≤ 2 ^ 65)
@@ -96,7 +96,7 @@ ends_narrow model ty q low high h e f =
         → high ≡ (low +ℤ pos m) -ℤ pos 1 → (unsigned_abs low ≤ 2 ^ 65) × (unsigned_abs high ≤ 2 ^ 65)
     narrow low high taken b m h k l e f = (omega (arith, ints), omega (arith, ints))
 
--- the ends and what is computed on the way to them fit
+-- the ends and the values computed for them fit
 pub record HasRoom (taken low : ℤ) (m : ℕ) : Type 0 where
   pub turn : FitsSigned w128 taken
   pub low_end : FitsSigned w128 low

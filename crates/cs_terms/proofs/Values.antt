@@ -23,7 +23,7 @@ swap_pos a b (suc c) =
     ∙ add-*ℤ (a *ℤ pos c) a b in
     left ∙ ap (λ n. n +ℤ a *ℤ b) (swap_pos a b c) ∙ sym right
 
--- a product of three numbers, the last two turned round
+-- a product of three numbers, with the last two exchanged
 pub *ℤ-swap : (a b c : ℤ) → (a *ℤ b) *ℤ c ≡ (a *ℤ c) *ℤ b
 *ℤ-swap a b (pos c) = swap_pos a b c
 *ℤ-swap a b (negsuc c) =
@@ -57,7 +57,7 @@ pub value_with-neg_ℤ : (v : Valuation) (symbol : Option Sym) (slope at value :
 value_with-neg_ℤ v None slope at value = refl
 value_with-neg_ℤ v (Some s) slope at value = affine-neg_ℤ slope at value (v s.0)
 
--- two affine functions of the same number added, as one seen from where the first has its value
+-- the sum of two affine functions of the same number, given at the number of the first one
 pub affine-add : (k l at value at' value' s : ℤ)
     → affine (k +ℤ l) at (value +ℤ affine l at' value' at) s ≡ affine k at value s +ℤ affine l at' value' s
 affine-add k l at value at' value' s =

@@ -28,7 +28,7 @@ use Rattle.cs_suspect_types.specs.declared.suspect.OperandRange.{OperandRange}
 use Rattle.cs_witness.specs.Corners.{IsPutInput, IsPut, IsCorner, AreRunsOf, AreCornersOf}
 use Rattle.cs_witness.proofs.Keys.{same_order}
 
--- a listed path that is set keeps the paths
+-- setting a path that is listed keeps the list of paths
 module _ (k : Path) (v : ℤ) where
   not_first : (f : Path × ℤ) (fs : List (Path × ℤ)) → (path_order k f.0 ≡ Equal → ⊥) → Contains (keys_of (f ∷ fs)) k → Contains (keys_of fs) k
   not_first f fs other (zero, before, is) = absurd (other (same_order k f.0 (sym is)))
@@ -51,7 +51,7 @@ module _ (k : Path) (v : ℤ) where
       at Equal is rest = refl
       at Greater is rest = ap (λ ks. f.0 ∷ ks) (rest (not_first f fs (λ e. let no : ⊥ = cc in no) here))
 
--- the number of a path, by whether it is the one that was set
+-- the number of a path after one was set, by whether it is that path
 numbers_at : (old new : List (Path × ℤ)) (path : Path) (number : ℤ) (other : Path) (r : Ordering) → path_order other path ≡ r
     → (path ≡ other → number_at new other ≡ number) → ((other ≡ path → ⊥) → number_at new other ≡ number_at old other)
     → number_at new other ≡ (if is_equal r then number else number_at old other)
@@ -77,12 +77,12 @@ put_unlisted es path number none = record {
       (λ e. absurd (none (subst (Contains (keys_of es)) (sym e) there))) (λ apart. refl);
 }
 
--- guesses that keep their numbers
+-- guesses that keep their numbers are unchanged
 pub none_put : (guesses : List Guess) → guesses ≡ map (λ (guess : Guess). record guess { number = guess.number }) guesses
 none_put [] = refl
 none_put (guess ∷ guesses) = ap (λ (l : List Guess). guess ∷ l) (none_put guesses)
 
--- an item of a list that is changed in place, one after another
+-- the items of a list are changed in place, one after another
 module _ {A : Type 0} (f : A → A) where
   pub place_read : (xs : List A) (i : ℕ) (d : A) → i < length xs → get_or (map f (take i xs) ++ drop i xs) i d ≡ get_or xs i d
   place_read [] i d below = absurd (omega arith)
@@ -129,18 +129,18 @@ corner_more changes symbol number event run middle other one put = record {
       ∙ guesses_more changes symbol number (filter (λ (guess : Guess). nat_lt guess.event event) run.guesses);
 }
 
--- a path that is put
+-- setting the number of a path
 pub path_put : (symbol : SymName) (path : Path) (number : ℤ) (old : ProgramRun) (inputs : List (Path × ℤ)) → symbol ≡ Input path
     → IsPutInput path number old.inputs inputs → IsPut symbol number old (record { inputs = inputs; guesses = old.guesses })
 path_put symbol path number old inputs is put =
     subst (λ s. IsPut s number old (record { inputs = inputs; guesses = old.guesses })) (sym is)
     (record { paths = put.paths; numbers = put.numbers; guesses = none_put old.guesses })
 
--- items that were pushed one after another
+-- two items that were pushed one after the other
 pub pushed_two : {A : Type 0} (none one both : List A) (a b : A) → none ≡ [] → one ≡ none ++ a ∷ [] → both ≡ one ++ b ∷ [] → both ≡ a ∷ b ∷ []
 pushed_two none one both a b e f g = g ∙ ap (λ l. l ++ b ∷ []) (f ∙ ap (λ l. l ++ a ∷ []) e)
 
--- the runs of the ends of a range, and of the corners of two
+-- the runs for the ends of one range, and for the corners of two
 module _ (event : ℕ) (run : ProgramRun) where
   pub two_runs : (range : OperandRange) (corners : List Run) (a b : Run) → corners ≡ a ∷ b ∷ []
       → IsCorner ((range.symbol, range.least) ∷ []) event run (run_of a) → IsCorner ((range.symbol, range.greatest) ∷ []) event run (run_of b)
@@ -172,7 +172,7 @@ module _ (event : ℕ) (run : ProgramRun) where
   both_runs left right first second corners is is' of =
       subst (λ l. AreCornersOf l right event run corners) (sym is) (subst (λ r. AreCornersOf (Some first) r event run corners) (sym is') of)
 
--- what was made, if anything was
+-- a weaker fact of a result
 pub if_ok : {T E : Type 0} {P Q : T → Type 0} (r : Result T E) → ((x : T) → P x → Q x) → IfOk r P → IfOk r Q
 if_ok (Ok x) f h = f x h
 if_ok (Err e) f h = tt

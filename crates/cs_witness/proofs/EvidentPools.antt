@@ -39,7 +39,7 @@ use Rattle.cs_witness.proofs.GuessLists.{at_image, agree_first, are_before, befo
 use Rattle.cs_witness.proofs.Namings.{there_is}
 use Rattle.cs_witness.proofs.Standings.{StandsAt, stands}
 
--- an item that a list has stands at a number, and the other way round
+-- an item that a list contains is at some index, and conversely
 pub contained_at : {A : Type 0} (xs : List A) (x : A) → Contains xs x → (n : ℕ) × (slice_get xs n ≡ Some x)
 contained_at xs x (n, below, is) = (n, slice_get-get_or xs n x below ∙ ap Some is)
 
@@ -50,7 +50,7 @@ at_contained (y ∷ xs) (suc n) x there =
     let it = at_contained xs n x there in
     (suc it.0, let below = it.1 in omega arith, it.2)
 
--- an operation with other operands, with others, and with its own
+-- replacing operands twice is replacing them by the last ones; replacing them by an operation's own changes nothing
 with_again : (operation : Operation) (one other : Pair) → with_operands (with_operands operation one) other ≡ with_operands operation other
 with_again (Binary operator ty left right) one other = refl
 with_again (Unary operator ty operand) one other = refl
@@ -73,7 +73,7 @@ with_own (Sum offset amount size) = refl
 with_own (Difference left right size) = refl
 with_own (Show what) = refl
 
--- changes of nothing
+-- no changes
 same_guesses : (guesses : List Guess) → guesses ≡ map (changed_guess []) guesses
 same_guesses [] = refl
 same_guesses (guess ∷ guesses) = ap (λ (l : List Guess). guess ∷ l) (same_guesses guesses)
@@ -90,7 +90,7 @@ module _ (entry : Entry) (suspect : Suspect) (pool : List Replay) where
   abbrev guesses : List Guess
   guesses = map (λ (guess : SuspectedGuess). guess.guess) suspect.guesses.items
 
-  -- what a replay shows of a guess of the suspect, of which it has another number
+  -- what a replay shows of a guess of the suspect, for which it has another number
   record Sees (number : ℕ) (guess : SuspectedGuess) (is : IsEvidentGuess program entry.function (run_budgets entry.budgets) suspect number guess)
       (changes : Changes) (mine : Replay) : Type 0 where
     pair : Pair
@@ -246,7 +246,7 @@ module _ (entry : Entry) (items : List SuspectedGuess) (run : ProgramRun) (is : 
       ∙ ap (map (changed_guess changes))
       (filter_first number guess.guess.event the_guesses (before_all the_guesses is.evident.ascending number guess.guess (listed number guess there)))
 
-  -- the corner of a guess that has a pair
+  -- the corner of a guess at a pair of operands
   at_corner : (number : ℕ) (guess : SuspectedGuess) → slice_get suspect.guesses.items number ≡ Some guess → (it : Evident number guess) (pair : Pair)
       → Contains it.pairs pair → IsAtCorner entry suspect pool number guess it pair
   at_corner number guess there it pair among =
@@ -272,7 +272,7 @@ module _ (entry : Entry) (items : List SuspectedGuess) (run : ProgramRun) (is : 
             (let e = it.event in omega arith);
       }
 
-  -- the shown run shows all guesses
+  -- the run shown shows all guesses
   shown_seen : IsSeen entry suspect pool shown
   shown_seen = record {
     count = length the_guesses;
@@ -295,7 +295,7 @@ module _ (entry : Entry) (items : List SuspectedGuess) (run : ProgramRun) (is : 
         };
   }
 
-  -- the corner of a guess shows those before it
+  -- the corner of a guess shows the guesses before it
   corner_seen : (later : ℕ) (other : SuspectedGuess) (all : List Changes) (changes : Changes) (replay : Replay)
       → slice_get suspect.guesses.items later ≡ Some other → AreCorners other.left other.right all → Contains all changes
       → IsCornerReplay entry run other.guess.event changes replay → IsSeen entry suspect pool replay
@@ -340,7 +340,7 @@ module _ (entry : Entry) (items : List SuspectedGuess) (run : ProgramRun) (is : 
       (at_corner place guess.0 guess.1 evident)
       (λ index g at changes count. are_before the_guesses is.evident.ascending changes count index g at)
 
-  -- its runs list the same paths
+  -- the runs of the pool list the same paths
   pub list_alike : (number : ℕ) (mine : Replay) → slice_get pool number ≡ Some mine → keys_of mine.run.inputs ≡ keys_of run.inputs
   list_alike zero mine there =
       let same : shown ≡ mine = cc in

@@ -47,7 +47,7 @@ module _ (entry : Entry) (suspect : Suspect) (evident : IsEvidentOf entry suspec
         (All-map Within (λ (one : SuspectedGuess). one.guess) suspect.guesses.items
         (subst (λ n. All (λ (one : SuspectedGuess). one.guess.event ≤ n) suspect.guesses.items) (sym passes_as_many) evident.passed))
 
--- guesses of an evident run stand at events from 1
+-- guesses of an evident run are at events from 1
 pub all_after_none : (entry : Entry) (items : List SuspectedGuess) (run : ProgramRun) → IsEvidentRun entry items run
     → All (λ (g : Guess). 0 < g.event) run.guesses
 all_after_none entry items run is =

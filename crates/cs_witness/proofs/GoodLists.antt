@@ -34,7 +34,7 @@ module _ (entry : Entry) where
     unfolding IsStrictlySortedBy
     none_good = record { good = All-nil (IsGoodOf entry); form = All-nil (λ (f : Finding). Is f.what); listed = tt }
 
-    -- one more finding, where its outcome belongs
+    -- one more finding, inserted at the position of its outcome
     pub good_more : (findings : List Finding) (finding : Finding) (what : Outcome) (i : ℕ) → finding.what ≡ what → i ≤ length findings
         → IsPartitionPoint (λ (f : Finding). key_order (outcome_key f.what) (outcome_key what) ≡ Less)
         (λ (f : Finding). key_order (outcome_key f.what) (outcome_key what) ≡ Greater) findings i

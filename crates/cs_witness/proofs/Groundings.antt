@@ -20,7 +20,7 @@ use Rattle.cs_judge.specs.declared.pool.Replay.{Replay}
 use Rattle.cs_judge.specs.Pools.{IsRunAt, IsReplayReal}
 use Rattle.cs_witness.specs.Grounding.{IsListedRunAt, AreRunsAt, IsGroundIn, AreGroundsIn}
 
--- item by item
+-- lists related index by index
 each_by_place : {A B : Type 0} (R : A → B → Type 0) (xs : List A) (ys : List B) → length ys ≡ length xs
     → ((n : ℕ) (x : A) (y : B) → slice_get xs n ≡ Some x → slice_get ys n ≡ Some y → R x y) → IsEach R xs ys
 each_by_place R [] [] count all = tt
@@ -38,7 +38,7 @@ module _ (pool : List Replay) (inputs : List (Path × ℤ)) where
       let same : listed.replay ≡ at.replay = cc in
       listed.same ∙ ap (λ (r : Replay). run_of r.run) same ∙ at.same
 
-  -- the runs of a ground are those that the judge was shown
+  -- the runs of a ground are those that the judge has seen
   same_runs : (numbers : Others ℕ) (runs : Others Run) (others : Others ProgramRun) → AreRunsAt pool inputs numbers runs
       → AllRelated (IsRunAt pool) numbers others → each_other run_of runs ≡ others
   same_runs (One number) (One run) (One other) listed at = ap One (one_run number run other listed at)
@@ -95,7 +95,7 @@ module _ (pool : List Replay) (inputs : List (Path × ℤ)) where
         let same : ground.guess ≡ guess = cc in
         ground_is n ground is guess same keys)
 
--- what holds of each item at its place holds of one more
+-- what holds for each item at its index, with one more item
 pub each_more_at : {A : Type 0} (P : ℕ → A → Type 0) (xs : List A) (x : A) → ((n : ℕ) (y : A) → slice_get xs n ≡ Some y → P n y)
     → P (length xs) x
     → (n : ℕ) (y : A) → slice_get (xs ++ x ∷ []) n ≡ Some y → P n y

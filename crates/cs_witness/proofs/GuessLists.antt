@@ -17,7 +17,7 @@ use Rattle.cs_judge.specs.Agreement.{AreBefore, AreAtEvents}
 use Rattle.cs_compared.specs.Agreement.{AgreeTo}
 use Rattle.cs_witness.specs.Evidence.{Changes, changed_guess}
 
--- an item of the image of the first ones of a list
+-- an item of the image of a list's first items
 pub record IsImageAt {A B : Type 0} (f : A → B) (count : ℕ) (xs : List A) (i : ℕ) (y : B) : Type 0 where
   pub x : A
   pub there : slice_get xs i ≡ Some x
@@ -40,7 +40,7 @@ at_image f (suc count) [] i x below there = let no : ⊥ = cc in absurd no
 at_image f (suc count) (a ∷ xs) zero x below there = let same : a ≡ x = cc in ap (λ z. Some (f z)) same
 at_image f (suc count) (a ∷ xs) (suc i) x below there = at_image f count xs i x (omega arith) there
 
--- the first ones of a list stay where they are
+-- taking a list's first items keeps their indices
 pub at_taken : {A : Type 0} (count : ℕ) (xs : List A) (i : ℕ) → i < count → slice_get (take count xs) i ≡ slice_get xs i
 at_taken zero xs i below = absurd (omega arith)
 at_taken (suc count) [] i below = refl
@@ -74,7 +74,7 @@ module _ (guesses : List Guess) (ascend : Ascend guesses) where
       let less = Less-from_sorted nat_cmp events i j 0 ascend before (omega arith) in
       less_than g.event h.event ((λ k. nat_cmp (sym (event_at i g there) k) (sym (event_at j h there') k)) ∙ less)
 
-  -- just the guesses before a place stand before the event of the guess there
+  -- exactly the guesses before an index are before the event of the guess there
   by_place : (i j : ℕ) (g h : Guess) → slice_get guesses i ≡ Some g → slice_get guesses j ≡ Some h → (before : Bool) → nat_lt i j ≡ before
       → nat_lt g.event h.event ≡ before
   by_place i j g h there there' true is =

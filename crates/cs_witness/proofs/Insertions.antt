@@ -15,12 +15,12 @@ use Rattle.std.proofs.lemmas.List.Sorted.{searchable_from_sorted}
 use Rattle.std.proofs.lemmas.Map.Keys.{Less-from_sorted}
 use Rattle.cs_inputs.proofs.SortedEntries.{flip-Less, flip-Greater}
 
--- what holds of all items holds of all after an insertion
+-- what holds for all items before an insertion, and for the inserted one, holds for all after it
 pub all_inserted : {A : Type 0} (P : A → Type 0) (xs : List A) (i : ℕ) (x : A) → All P xs → P x → All P (insert xs i x)
 all_inserted P xs i x all one = All-append P (take i xs) (x ∷ drop i xs) (All-take P i xs all) (All-cons P x (drop i xs) one (All-drop P i xs all))
 
 module _ {A : Type 0} (xs : List A) (i : ℕ) (x : A) where
-  -- the item is there after its insertion, and so is each that was
+  -- after an insertion the list contains the item, and all that it contained
   pub inserted_there : Contains (insert xs i x) x
   inserted_there = Contains-append_right (take i xs) (x ∷ drop i xs) x (0, omega arith, refl)
 
@@ -54,11 +54,11 @@ module _ {A K : Type 0} {R : K → K → Ordering} (o : IsTotalOrder R) (key : A
       let less : R (key (get_or xs k d)) (key (get_or xs (k + 1) d)) ≡ Less = (λ i. R (sym low i) (sym high i)) ∙ keys in
       ap is_lt (flip-Less o (key (get_or xs k d)) (key (get_or xs (k + 1) d)) less)
 
-  -- such a list can be searched
+  -- such a list can be searched by its key
   pub searchable : (xs : List A) (k : K) → IsStrictlySortedBy R (map key xs) → IsNonDecreasingBy (λ (x : A). ordering_index (R (key x) k)) xs
   searchable xs k h = searchable_from_sorted o key xs k (λ j d low high. adjacent xs j d h high)
 
-  -- items above a lesser one
+  -- a key below all items and below the inserted one is below all after the insertion
   above : (least : K) (x : A) (xs : List A) (i : ℕ) → R least (key x) ≡ Less → AllByRecursion (λ z. R least z ≡ Less) (map key xs)
       → AllByRecursion (λ z. R least z ≡ Less) (map key (take i xs ++ x ∷ drop i xs))
   above least x [] zero e h = (e, tt)
@@ -66,7 +66,7 @@ module _ {A K : Type 0} {R : K → K → Ordering} (o : IsTotalOrder R) (key : A
   above least x (y ∷ ys) zero e h = (e, h)
   above least x (y ∷ ys) (suc i) e h = (h.0, above least x ys i e h.1)
 
-  -- an insertion where an item belongs keeps the order
+  -- inserting an item at its position keeps the order
   pub inserted_in_order : (xs : List A) (x : A) (i : ℕ) → i ≤ length xs
       → IsPartitionPoint (λ (y : A). R (key y) (key x) ≡ Less) (λ (y : A). R (key y) (key x) ≡ Greater) xs i
       → IsStrictlySortedBy R (map key xs) → IsStrictlySortedBy R (map key (insert xs i x))

@@ -31,7 +31,7 @@ each_more R [] (b ∷ ys) x y each one = absurd each
 each_more R (a ∷ xs) [] x y each one = absurd each
 each_more R (a ∷ xs) (b ∷ ys) x y each one = (each.0, each_more R xs ys x y each.1 one)
 
--- where an operation is kept, it was pending
+-- the operation that is kept at an event was pending there
 kept_places : (log : List pending.Pending) (passed : ℕ) (at : Place) (operation : Operation)
     → slice_get (map noted log) passed ≡ Some (kept.Operates at operation) → slice_get log passed ≡ Some (pending.Operates at operation)
 kept_places [] passed at operation e = let no : ⊥ = cc in absurd no
@@ -47,14 +47,14 @@ pub kept_of_log : (notes : List Kept) (log : List pending.Pending) → notes ≡
     → slice_get notes passed ≡ Some (kept.Operates at operation) → slice_get log passed ≡ Some (pending.Operates at operation)
 kept_of_log notes log are passed at operation e = kept_places log passed at operation (sym (ap (λ l. slice_get l passed) are) ∙ e)
 
--- and where one was pending, it is kept
+-- and each pending operation is kept
 pub log_is_kept : (notes : List Kept) (log : List pending.Pending) → notes ≡ map noted log → (passed : ℕ) (at : Place) (operation : Operation)
     → slice_get log passed ≡ Some (pending.Operates at operation) → slice_get notes passed ≡ Some (kept.Operates at operation)
 log_is_kept notes log are passed at operation e =
     ap (λ l. slice_get l passed) are ∙ slice_get-map noted log passed ∙ ap (option_map noted) e
 
 module _ (program : TypedProgram) (entry : ℕ) (budgets : Budgets) where
-  -- what is kept of a run under a budget of no more events than the entry's
+  -- what is kept of a run under a budget of at most the entry's events
   pub kept_up_to : (events : ℕ) (run : ProgramRun) (outcome : Outcome) (log : Log) (notes : List Kept)
       → RunGives program entry run (up_to events budgets) outcome log → events ≤ budgets.events
       → ((passed : ℕ) (at : Place) (operation : Operation) → slice_get notes passed ≡ Some (kept.Operates at operation)

@@ -28,7 +28,7 @@ tail : {K : Type 0} (P : K → Type 0) (x : K) (xs : List K) → All P (x ∷ xs
 tail P x xs all k d there = all (suc k) d (omega arith)
 
 module _ {K X : Type 0} {R : K → K → Ordering} (tie : (x y : K) → R x y ≡ Equal → x ≡ y) (P : K → Type 0) where
-  -- what holds of the keys after an insertion held of those before, and holds of the new one
+  -- what holds for the keys after an insertion held for those before, and holds for the new one
   held : (es : List (K × X)) (k : K) (v : X) → All P (keys_of (insert_entry R es k v)) → All P (keys_of es) × P k
   held [] k v all = (λ i d there. absurd (omega arith), head P k [] all)
   held (f ∷ fs) k v all = at (R k f.0) refl (held fs k v) all
@@ -41,7 +41,7 @@ module _ {K X : Type 0} {R : K → K → Ordering} (tie : (x y : K) → R x y �
           let rest = inner (tail P f.0 (keys_of (insert_entry R fs k v)) all) in
           (All-cons P f.0 (keys_of fs) (head P f.0 (keys_of (insert_entry R fs k v)) all) rest.0, rest.1)
 
--- the one item of a list
+-- the only item of a list
 only : {A : Type 0} (x y : A) → Contains (x ∷ []) y → x ≡ y
 only x y (zero, before, is) = is
 only x y (suc k, before, is) = absurd (omega arith)
@@ -72,7 +72,7 @@ module _ (entries : List (Path × ℤ)) (path : Path) (number : ℤ) where
           let all = kept (Contains (keys_of Set)) (All-contains_itself (keys_of Set)) in
           subst (Contains (keys_of Set)) (only path q here) all.1
 
--- a path is of the order of itself
+-- an order that is its own reverse is `Equal`
 own_order : (r : Ordering) → r ≡ ordering_reverse r → r ≡ Equal
 own_order Less e = absurd (cc)
 own_order Equal e = refl
@@ -115,7 +115,7 @@ adds_none given old = record {
     either_none (inl here) = here
     either_none (inr here) = absurd (let before = here.1 in omega arith)
 
--- paths that are added after others
+-- paths that are added after other ones
 pub adds_then : (given : List (Path × ℤ)) (paths more : List Path) (old middle new : List (Path × ℤ)) → Adds given paths old middle
     → Adds given more middle new → Adds given (paths ++ more) old new
 adds_then given paths more old middle new one other = record {
@@ -143,7 +143,7 @@ adds_then given paths more old middle new one other = record {
     back path (inl here) = inl ((one.listed path).1 (inl here))
     back path (inr here) = back_from path (Contains-append_cases paths more path here)
 
--- the entry after the first ones goes to the end
+-- inserting the next entry of an ordered list into its first entries puts it at their end
 pub set_last : (entries : List (Path × ℤ)) (k : ℕ) (d : Path × ℤ) → IsInOrder entries → k < length entries
     → insert_entry path_order (take k entries) (get_or entries k d).0 (get_or entries k d).1 ≡ take (k + 1) entries
 set_last entries k d ordered there =
@@ -170,7 +170,7 @@ none_in_order : IsInOrder []
 unfolding IsStrictlySortedBy
 none_in_order = tt
 
--- parameters and paths that were read, added to no inputs
+-- parameters and read paths, added to no inputs
 module _ (given : List (Path × ℤ)) (parameters read : List Path) (middle new : List (Path × ℤ)) (one : Adds given parameters [] middle)
     (other : Adds given read middle new) where
   from_parameters : (path : Path) → (Contains (keys_of {X = ℤ} []) path ⊎ Contains parameters path) → Contains parameters path ⊎ Contains read path
@@ -194,7 +194,7 @@ module _ (given : List (Path × ℤ)) (parameters read : List Path) (middle new 
   pub lists_in_order : IsInOrder new
   lists_in_order = other.in_order (one.in_order none_in_order)
 
--- one more path on both sides
+-- the next path of two lists is the same
 pub keys_more : (one other : List (Path × ℤ)) (i : ℕ) (a b : Path × ℤ) → i < length one → i < length other → a ≡ get_or one i a
     → b ≡ get_or other i b
     → a.0 ≡ b.0 → keys_of (take i one) ≡ keys_of (take i other) → keys_of (take (i + 1) one) ≡ keys_of (take (i + 1) other)
@@ -205,7 +205,7 @@ keys_more one other i a b below below' is is' same before =
     ∙ (λ j. before j ++ same j ∷ [])
     ∙ sym (ap keys_of its ∙ map-append (λ (e : Path × ℤ). e.0) (take i other) (b ∷ []))
 
--- one more key
+-- the next key
 pub keys_push : (entries : List (Path × ℤ)) (i : ℕ) (e : Path × ℤ) → i < length entries → e ≡ get_or entries i e
     → keys_of (take (i + 1) entries) ≡ keys_of (take i entries) ++ e.0 ∷ []
 keys_push entries i e below is =
@@ -216,7 +216,7 @@ keys_push entries i e below is =
 pub key_at : (entries : List (Path × ℤ)) (i : ℕ) (e : Path × ℤ) → i < length entries → e ≡ get_or entries i e → get_or (keys_of entries) i e.0 ≡ e.0
 key_at entries i e below is = get_or-map (λ (x : Path × ℤ). x.0) entries i e e.0 below ∙ ap (λ (x : Path × ℤ). x.0) (sym is)
 
--- entries of the same keys
+-- the entries of lists with the same keys have the same keys
 pub same_key : (one other : List (Path × ℤ)) (i : ℕ) (a b : Path × ℤ) → i < length one → i < length other → a ≡ get_or one i a
     → b ≡ get_or other i b
     → keys_of one ≡ keys_of other → (get_or one i a).0 ≡ (get_or other i b).0

@@ -26,7 +26,7 @@ use Rattle.cs_witness.proofs.Namings.{here_or_before, there_is}
 use Rattle.cs_witness.proofs.Orders.{one_fault, one_over}
 use Rattle.cs_witness.proofs.PathsRead.{mapped, from_mapped}
 
--- a finding that is inserted is listed, and what was listed is
+-- inserting a finding lists it, and keeps what was listed
 module _ (findings : List Finding) (place : ℕ) (finding : Finding) where
   abbrev what_of : Finding → Outcome
   what_of f = f.what
@@ -58,14 +58,14 @@ module _ (findings : List Finding) (what : Outcome) (i : ℕ) (below : i < lengt
   pub listed_over : IsOver what → All (λ (f : Finding). IsOver f.what) findings → Contains (outcomes_of findings) what
   listed_over form all = listed_at here.0 (one_over (get_or findings i here.0).what what (all i here.0 below) form (found here.0))
 
--- what is in stays in
+-- what was listed remains listed
 pub still_in : (what : Outcome) (reports overs reports' overs' : List Finding) → KeepsListed reports reports' → KeepsListed overs overs'
     → IsIn what reports overs → IsIn what reports' overs'
 still_in (Fault kind at) reports overs reports' overs' one other is = one (Fault kind at) is
 still_in (Over budget at) reports overs reports' overs' one other is = other (Over budget at) is
 still_in (Done returned) reports overs reports' overs' one other is = tt
 
--- and has a finding in a result of these findings
+-- a listed outcome has a finding in the result
 pub has_finding : (result : EntryResult) (what : Outcome) (reports overs : List Finding) → result.reports.items ≡ reports → result.overs.items ≡ overs
     → IsIn what reports overs → HasFinding result what
 has_finding result (Fault kind at) reports overs one other is = subst (λ l. Contains (outcomes_of l) (Fault kind at)) (sym one) is
@@ -73,7 +73,7 @@ has_finding result (Over budget at) reports overs one other is = subst (λ l. Co
 has_finding result (Done returned) reports overs one other is = tt
 
 module _ (entry : Entry) (suspects : List Suspect) where
-  -- the outcomes of the evident suspects that were looked at are listed
+  -- the outcomes of the evident suspects among these ranks are listed
   abbrev pub ListRanked : List Rank → List Finding → List Finding → Type 0
   ListRanked ranks reports overs = (rank : Rank) (suspect : Suspect) → Contains ranks rank → slice_get suspects rank.number ≡ Some suspect
       → IsFinding suspect.what → IsEvidentOf entry suspect → IsIn suspect.what reports overs
@@ -81,7 +81,7 @@ module _ (entry : Entry) (suspects : List Suspect) where
   pub none_ranked : (reports overs : List Finding) → ListRanked [] reports overs
   none_ranked reports overs rank suspect among = absurd (let before = among.1 in omega arith)
 
-  -- one more
+  -- one more rank
   pub more_ranked : (ranks : List Rank) (one : Rank) (reports overs reports' overs' : List Finding) → KeepsListed reports reports'
       → KeepsListed overs overs' → ListRanked ranks reports overs
       → ((suspect : Suspect) → slice_get suspects one.number ≡ Some suspect → IsFinding suspect.what → IsEvidentOf entry suspect

@@ -27,14 +27,14 @@ use Rattle.cs_witness.specs.Pooling.{IsShownReplay, AddsAllCorners, HasCornersOf
 use Rattle.cs_witness.proofs.EvidentPools.{have_proofs, list_alike}
 use Rattle.cs_witness.proofs.Namings.{there_is}
 
--- what an item of an image comes from
+-- an item of an image is the image of some item
 mapped_at : {A B : Type 0} (f : A → B) (xs : List A) (n : ℕ) (y : B) → slice_get (map f xs) n ≡ Some y
     → (x : A) × (slice_get xs n ≡ Some x) × (f x ≡ y)
 mapped_at f [] n y there = let no : ⊥ = cc in absurd no
 mapped_at f (x ∷ xs) zero y there = (x, refl, cc)
 mapped_at f (x ∷ xs) (suc n) y there = mapped_at f xs n y there
 
--- what the judge sees of a replay is seen of what is kept of it
+-- what the judge sees of a replay, from what is kept of it
 abbrev seen : ProgramRun × List Event × List Kept → Bare
 seen it = record { guesses = it.0.guesses; events = it.1; kept = it.2 }
 
@@ -95,7 +95,7 @@ module _ (pool : List Replay) (inputs : List (Path × ℤ))
     all_alike (Two number second) (One pair) are = absurd are
     all_alike (Two number second) (Two pair next) are = (alike_at number pair are.0, alike_at second next are.1)
 
-  -- each proved guess has a ground in the pool
+  -- each guess with a proof has a ground in the pool
   has_grounds : (model : DataModel) → AreProved model pool → (mine : Replay) → slice_get pool 0 ≡ Some mine → HasGroundsIn pool mine inputs
   has_grounds model are mine there number within =
       let it = are 0 mine number there within in
@@ -117,7 +117,7 @@ module _ (pool : List Replay) (inputs : List (Path × ℤ))
         alike = all_alike (judged mine) number proves.passed proves.at proves.operation it.partners.others proves.pairs proves.are;
       }
 
--- what the judge and the grounds need of a pool
+-- what the judge and the grounds require of a pool
 pub record IsProvedPool (model : DataModel) (pool : List Replay) (inputs : List (Path × ℤ)) : Type 0 where
   pub proved : AreProved model pool
   pub grounds : (mine : Replay) → slice_get pool 0 ≡ Some mine → HasGroundsIn pool mine inputs

@@ -33,7 +33,7 @@ there_is [] n below = absurd (omega arith)
 there_is (x ∷ xs) zero below = (x, refl)
 there_is (x ∷ xs) (suc n) below = there_is xs n (omega arith)
 
--- what stands at a number after one was set
+-- the item at an index that was set
 set_here : {A : Type 0} (xs : List A) (i : ℕ) (x y : A) → slice_get (set xs i x) i ≡ Some y → y ≡ x
 set_here [] i x y there = let no : ⊥ = cc in absurd no
 set_here (a ∷ xs) zero x y there = cc
@@ -74,7 +74,7 @@ named_all found pool i below all number mine row there listed =
     let within = slice_get_within pool number mine there in
     below number mine row (omega arith) there listed
 
--- partners that prove a guess are numbers of runs
+-- partners that prove a guess are indices of runs
 module _ (pool : List Bare) (mine : Bare) (place passed : ℕ) (at : Place) (operation : Operation) where
   within_pool : (number : ℕ) (pair : Pair) → IsPartner pool mine place passed at operation number pair → number < length pool
   within_pool number pair is = slice_get_within pool number is.other is.there
@@ -97,7 +97,7 @@ found_by_proof pool mine place model partners few proves =
     fewer (length pool) (2 ^ 64 - 1) partners.others few
     (others_within pool mine place proves.passed proves.at proves.operation partners.others proves.pairs proves.are)
 
--- where all guesses have proofs, partners are found for all
+-- if all guesses have proofs, partners are found for all
 module _ (model : DataModel) (pool : List Replay) (have : HaveProofs model pool) (few : length pool ≤ 2 ^ 64 - 1) where
   row_found : (number : ℕ) (mine : Replay) (row : List Partners) → slice_get pool number ≡ Some mine
       → FindsProofs model (map judged pool) (judged mine) row
@@ -116,7 +116,7 @@ module _ (model : DataModel) (pool : List Replay) (have : HaveProofs model pool)
       let mine = there_is pool number within in
       row_found number mine.0 row.items mine.1 (finds.each number mine.0 row mine.1 (slice_get-get_or found number d below))
 
--- a pool that was widened to the same length
+-- a pool that was widened to the same length is unchanged
 pub no_wider : (entry : Entry) (old new : List Replay) → Widens entry old new → length new ≡ length old → new ≡ old
 no_wider entry old new wide count = at wide.more wide.is
   where
@@ -133,7 +133,7 @@ row_all found number row all there =
     subst (λ (r : Vec Partners Global). All IsFound r.items) (get_or_from_slice_get found number row row there)
     (all number row (slice_get_within found number row there))
 
--- what holds of all items of a list holds of those that it gives to a zip
+-- what holds for all items of a list holds for the second parts of a zip with it
 pub zipped_all : {A B : Type 0} (P : B → Type 0) (xs : List A) (ys : List B) → All P ys → All (λ (p : A × B). P p.1) (zip xs ys)
 zipped_all P [] ys all = All-nil _
 zipped_all P (x ∷ xs) [] all = All-nil _

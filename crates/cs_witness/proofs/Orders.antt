@@ -98,7 +98,7 @@ budget_there Visits = refl
 budget_there Depth = refl
 budget_there Events = refl
 
--- faults with one key are one, and so are met budgets
+-- faults with equal keys are equal, and so are met budgets
 pub one_fault : (one other : Outcome) → IsFault one → IsFault other → key_order (outcome_key one) (outcome_key other) ≡ Equal → one ≡ other
 one_fault (Fault kind at) (Fault kind' at') is is' e =
     let keys = key_tie (at, kind_number kind) (at', kind_number kind') e in

@@ -16,7 +16,7 @@ use Rattle.cs_meaning.specs.Steps.{step}
 use Rattle.cs_meaning.specs.ProgramRuns.{ProgramRun, setting_of, start_of, RunGives, RunReads}
 use Rattle.cs_witness.specs.Listing.{path_read}
 
--- an item of a list is one of the list's image, and each of these comes from an item
+-- the image of a list contains exactly the images of its items
 pub mapped : {A B : Type 0} (f : A → B) (xs : List A) (x : A) → Contains xs x → Contains (map f xs) (f x)
 mapped f xs x here = (
   here.0,
@@ -33,7 +33,7 @@ from_mapped f xs d y here =
 
 module _ (program : TypedProgram) (entry : ℕ) (budgets : RunBudgets) (run : ProgramRun) (outcome : Outcome) (end : Log)
     (ended : RunGives program entry run budgets outcome end) where
-  -- what was read on the way was read at the end
+  -- what was read before was read at the end
   read_first : (log : Log) → ComesTo (step program budgets) (setting_of program run budgets) (start_of program entry run) log
       → (more : List Lookup) × (end.read ≡ log.read ++ more)
   read_first log (inl way) =

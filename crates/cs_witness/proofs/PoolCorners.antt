@@ -17,7 +17,7 @@ use Rattle.cs_witness.specs.Evidence.{Changes, AreCorners, of_right, of_left, of
 use Rattle.cs_witness.specs.Pooling.{IsReplayUpTo, IsCornerReplay, AddsCorners, AddsAllCorners, IsSomeCorner, HasCornersOf}
 use Rattle.cs_witness.proofs.Keepings.{each_more}
 
--- two ranges have one list of corners
+-- two ranges determine one list of corners
 pub one_corners : (left right : Option OperandRange) (one other : List Changes) → AreCorners left right one → AreCorners left right other → one ≡ other
 one_corners None right one other of_right of_right = refl
 one_corners (Some left) None one other of_left of_left = refl
@@ -49,7 +49,7 @@ module _ {A B : Type 0} (R : A → B → Type 0) where
   each_of (a ∷ xs) (b ∷ ys) each =
       All-cons (IsOf (a ∷ xs)) b ys (a, (0, omega arith, refl), each.0) (All-weaker (IsOf xs) (IsOf (a ∷ xs)) (later_of a xs) ys (each_of xs ys each.1))
 
--- one relation after another
+-- the composition of two relations of items
 each_through : {A B C : Type 0} (R : A → B → Type 0) (S : B → C → Type 0) (T : A → C → Type 0) → ((x : A) (y : B) (z : C) → R x y → S y z → T x z)
     → (xs : List A) (ys : List B) (zs : List C) → IsEach R xs ys → IsEach S ys zs → IsEach T xs zs
 each_through R S T f [] [] [] one other = tt
@@ -64,7 +64,7 @@ module _ (entry : Entry) (event : ℕ) where
   abbrev pub IsReplayed : Run → Replay → Type 0
   IsReplayed corner replay = (run_of replay.run ≡ run_of corner) × IsReplayUpTo entry event replay
 
-  -- replays of these runs joined a pool
+  -- the replays of these runs joined a pool
   pub record Joined (corners : List Run) (old new : List Replay) : Type 0 where
     pub more : List Replay
     pub is : new ≡ old ++ more

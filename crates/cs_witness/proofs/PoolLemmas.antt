@@ -23,7 +23,7 @@ use Rattle.std.proofs.lemmas.List.{map-set, set-get_or, get_or-map, length-map}
 use Rattle.std.specs.Prelude.{length, take, ◌≤◌}
 
 module _ (program : TypedProgram) (entry : ℕ) (budgets : RunBudgets) where
-  -- what is kept of a pool and of one more replay, or of more
+  -- what is kept of a pool and of further replays
   pub kept_more : (pool more : List Replay) → AreKept program entry budgets pool → AreKept program entry budgets more
       → AreKept program entry budgets (pool ++ more)
   kept_more [] more one other n replay there = other n replay there
@@ -40,7 +40,7 @@ module _ (program : TypedProgram) (entry : ℕ) (budgets : RunBudgets) where
   pub kept_none : AreKept program entry budgets []
   kept_none n other there = let no : ⊥ = cc in absurd no
 
-  -- the same of a replay but for its partners
+  -- `IsKept` of a replay without its partners
   abbrev IsKeptSo : ProgramRun × List Event × List Kept → Type 0
   IsKeptSo it = (passed : ℕ) (at : Place) (operation : Operation) → slice_get it.2 passed ≡ Some (kept.Operates at operation)
       → passed ≤ length it.1
@@ -53,7 +53,7 @@ module _ (program : TypedProgram) (entry : ℕ) (budgets : RunBudgets) where
       let same : bare r ≡ bare replay = cc in
       subst IsKeptSo same (all r refl)
 
-  -- other partners change nothing of what is kept
+  -- changing partners doesn't change what is kept
   pub kept_named : (old new : List Replay) → KeepsRuns old new → AreKept program entry budgets old → AreKept program entry budgets new
   kept_named old new same all n replay there =
       let e : option_map bare (slice_get old n) ≡ Some (bare replay) =
@@ -127,7 +127,7 @@ widens_one entry pool replay is = record {
   kept = kept_one (typed_program entry.program.now) entry.function (run_budgets entry.budgets) replay is;
 }
 
--- one replay of a pool has other partners
+-- one replay of a pool gets other partners
 pub named_one : (pool : List Replay) (number : ℕ) (was replay : Replay) → number < length pool → bare replay ≡ bare was
     → was ≡ get_or pool number was
     → KeepsRuns pool (set pool number replay)
@@ -140,7 +140,7 @@ named_one pool number was replay within same is =
 pub named_on : (old middle new : List Replay) → KeepsRuns old middle → KeepsRuns middle new → KeepsRuns old new
 named_on old middle new one other = other ∙ one
 
--- a list without items
+-- a list of length 0
 pub none_there : {A : Type 0} (xs : List A) → length xs ≡ 0 → xs ≡ []
 none_there [] count = refl
 none_there (x ∷ xs) count = absurd (omega arith)

@@ -32,7 +32,7 @@ gives_alike model one other path Pointer e = ap (input_cell model path Pointer) 
 gives_alike model one other path Allocation e = ap is_true e
 gives_alike model one other path Nothing e = tt
 
--- an item of the rest is one of the list
+-- an item of a list's rest is one of the list
 later : {A : Type 0} (x y : A) (xs : List A) → Contains xs y → Contains (x ∷ xs) y
 later x y xs here = (suc here.0, let before = here.1 in omega arith, here.2)
 

@@ -26,7 +26,7 @@ use Rattle.cs_witness.specs.Listing.{Lists, IsListed}
 use Rattle.cs_witness.proofs.PathsRead.{reads_end}
 use Rattle.cs_witness.proofs.SameRuns.{same_run}
 
--- the run of the listed inputs is that of the given ones
+-- the run on the listed inputs is the one on the given inputs
 pub listed_gives : (entry : Entry) (given inputs : List (Path × ℤ)) (guesses : List Guess) (replayed : Replayed)
     → Gives entry (record { inputs = given; guesses = guesses }) replayed
     → Lists (typed_program entry.program.now) entry.function given replayed.log.read.items inputs
@@ -68,7 +68,7 @@ shows entry one finding is what run events ascending passed each =
       grounds = each;
     })
 
--- a run that ends in one way doesn't end in another
+-- a run that ends in one outcome doesn't end in another
 pub ends_elsewhere : (entry : Entry) (inputs : List (Path × ℤ)) (replayed : Replayed) (what : Outcome)
     → Gives entry (record { inputs = inputs; guesses = [] }) replayed → (replayed.outcome ≡ what → ⊥)
     → EndsElsewhere (typed_program entry.program.now) entry.function (run_budgets entry.budgets) what inputs
@@ -91,7 +91,7 @@ shows_plain entry one what grounds is none ends empty =
     (subst (All (λ (g : Guess). g.event ≤ length one.replayed.log.events.items)) (sym none) (All-nil _))
     (subst (λ gs. Related gs grounds.items) (sym none) (subst (Related []) (sym empty) tt))
 
--- a finding of what a run ends in is one of what it was suspected to end in
+-- a finding with the outcome of a run has the suspected outcome, if these are equal
 pub so_too : {E : Type 0} (r : Result (Option Finding) E) (outcome what : Outcome) → IfOk r (λ found. IfSome found (λ f. f.what ≡ outcome))
     → (IsFinding what → outcome ≡ what) → IfOk r (λ found. IfSome found (λ f. IsFinding what → f.what ≡ what))
 so_too (Err e) outcome what h so = tt

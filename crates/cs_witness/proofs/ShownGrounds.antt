@@ -16,7 +16,7 @@ use Rattle.cs_witness.specs.Grounding.{AreGroundsIn}
 use Rattle.cs_witness.proofs.Groundings.{grounds_are}
 use Rattle.cs_witness.proofs.PoolLemmas.{IsPoolOf}
 
--- where the judge has shown the guesses of a pool to be real, the grounds that are read off it are those of its first run
+-- if the judge has shown the guesses of a pool to be real, the grounds that are read from it are those of its first run
 pub grounds_shown : (entry : Entry) (run : ProgramRun) (pool : List Replay) (grounds : List Ground) → IsPoolOf entry run pool
     → ShowsReal entry.program.now.model pool
     → ((mine : Replay) → slice_get pool 0 ≡ Some mine → AreGroundsIn pool mine run.inputs grounds)
@@ -30,7 +30,7 @@ grounds_shown entry run pool grounds is real each =
     (sym (ap (λ (r : ProgramRun). keys_of r.inputs) first.same)) in
     subst (λ (r : ProgramRun). IsEach (IsGroundOf program entry.function budgets r) r.guesses grounds) first.same made
 
--- the same of what was found, if anything was
+-- the same for what was found, if anything was
 pub grounds_found : {E : Type 0} (entry : Entry) (run : ProgramRun) (pool : List Replay) (r : Result (Option (Vec Ground Global)) E)
     → IsPoolOf entry run pool → ShowsReal entry.program.now.model pool
     → IfOk r (λ found. IfSome found (λ grounds. (mine : Replay) → slice_get pool 0 ≡ Some mine → AreGroundsIn pool mine run.inputs grounds.items))

@@ -24,7 +24,7 @@ use Rattle.cs_witness.proofs.Keepings.{log_is_kept}
 use Rattle.cs_witness.proofs.Namings.{there_is}
 use Rattle.cs_witness.proofs.SmallerBudgets.{comes_within}
 
--- a replay passes these events first, and then this operation was kept
+-- a replay passes these events first, and then keeps this operation
 pub record StandsAt (replay : Replay) (before : List Event) (at : Place) (operation : Operation) : Type 0 where
   pub enough : length before ≤ length replay.events.items
   pub first : take (length before) replay.events.items ≡ before

@@ -136,6 +136,6 @@ module _ (program : TypedProgram) (visits depth one other : ℕ) where
   steps [] m = refl
   steps (item ∷ following) m = items item (to_do following m)
 
-  -- a step of either
+  -- the step functions under both budgets are equal
   pub same_steps : step program First ≡ step program Second
   same_steps = λ i m. steps m.frame.todo m i

@@ -6,7 +6,7 @@ use Rattle.std.proofs.lemmas.List.{take_more, take_all, map_more, append-nil, ap
 use Rattle.std.proofs.lemmas.Grind.{flat_map-append}
 
 module _ {A : Type 0} where
-  -- the first ones of those that come after the first ones
+  -- taking the first items of a list that was cut at the same length
   pub take_again : (n : ℕ) (xs ys : List A) → take n (take n xs ++ ys) ≡ take n (xs ++ ys)
   take_again zero xs ys = refl
   take_again (suc n) [] ys = refl
@@ -17,7 +17,7 @@ module _ {A : Type 0} where
   at_most (suc n) [] = omega arith
   at_most (suc n) (x ∷ xs) = let rest = at_most n xs in omega arith
 
-  -- one more below the limit, and at the limit
+  -- one more item, below the limit and at it
   pub joins : (n : ℕ) (xs : List A) (y : A) → length xs < n → xs ++ y ∷ [] ≡ take n (xs ++ y ∷ [])
   joins n xs y room = let count = length_push xs y in sym (take_all n (xs ++ y ∷ []) (omega arith))
 
@@ -27,21 +27,21 @@ module _ {A : Type 0} where
   pub none_joins : (n : ℕ) (xs : List A) → length xs ≤ n → xs ≡ take n (xs ++ [])
   none_joins n xs few = sym (ap (take n) (append-nil xs) ∙ take_all n xs few)
 
-  -- those that join the first ones, with those that join then
+  -- items that are added after others, up to the limit
   pub join_on : (n : ℕ) (old middle new more : List A) (ys : List A) → middle ≡ take n (old ++ more) → new ≡ take n (middle ++ ys)
       → new ≡ take n (old ++ (more ++ ys))
   join_on n old middle new more ys first added =
       added ∙ ap (λ l. take n (l ++ ys)) first ∙ take_again n (old ++ more) ys ∙ ap (take n) (append_assoc old more ys)
 
 module _ {A B : Type 0} where
-  -- one more item of a list whose images join
+  -- one more item, if a list's images are added
   pub image_joins : (n : ℕ) (f : A → B) (old middle new : List B) (xs : List A) (i : ℕ) (d : A) → i < length xs
       → middle ≡ take n (old ++ map f (take i xs)) → new ≡ take n (middle ++ f (get_or xs i d) ∷ [])
       → new ≡ take n (old ++ map f (take (i + 1) xs))
   image_joins n f old middle new xs i d below first added =
       join_on n old middle new (map f (take i xs)) (f (get_or xs i d) ∷ []) first added ∙ ap (λ l. take n (old ++ l)) (sym (map_more f xs i d below))
 
-  -- and of one whose pieces join
+  -- and if lists of images are added
   pub piece_joins : (n : ℕ) (f : A → List B) (old middle new : List B) (xs : List A) (i : ℕ) (x : A) → i < length xs → x ≡ get_or xs i x
       → middle ≡ take n (old ++ flat_map f (take i xs)) → new ≡ take n (middle ++ f x)
       → new ≡ take n (old ++ flat_map f (take (i + 1) xs))

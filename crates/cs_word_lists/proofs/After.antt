@@ -24,7 +24,7 @@ natural_after front words number = natural_by (nat_lt number LAST) front words n
 pub integer_after : IsAfter with_integer
 integer_after front words number = natural_after front words (zigzag number)
 
--- one more word after what is written by itself
+-- one more word after words that were written separately
 pub word_next : (front words next : List ℕ) (word : ℕ) → front ++ words ≡ next → front ++ with_word words word ≡ with_word next word
 word_next front words next word same = word_after front words word ∙ ap (λ words. with_word words word) same
 

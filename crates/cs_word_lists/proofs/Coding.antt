@@ -11,7 +11,7 @@ use Rattle.std.proofs.lemmas.Nat.{div_below}
 use Rattle.std.proofs.Math.Nat.{pow-suc}
 use Rattle.cs_word_lists.specs.Bytes.{digits, bytes_of_word, bytes_of, with_digit, words_in}
 
--- the digits of a word stand for it, whatever comes after them
+-- the digits of a word represent it, whatever follows them
 digits_read : (more word : ℕ) (bytes : List ℕ) → word ≤ more → words_in (digits more word ++ bytes) ≡ word ∷ words_in bytes
 digits_read zero word bytes few = let small : nat_lt word 128 ≡ true = lt-ltb word 128 (omega arith) in rw small refl
 digits_read (suc more) word bytes few =
@@ -34,7 +34,7 @@ words_read (word ∷ words) bytes =
 pub words_back : (words : List ℕ) → words_in (bytes_of words) ≡ words
 words_back words = ap words_in (sym (append-nil (bytes_of words))) ∙ words_read words [] ∙ append-nil words
 
--- whole words: the bytes are those of the words that they stand for
+-- whole words: the bytes are those of the words that they represent
 module _ (bytes : List ℕ) (whole : bytes ≡ bytes_of (words_in bytes)) where
   pub one_more_read : (word : ℕ) → words_in (bytes ++ bytes_of_word word) ≡ words_in bytes ++ word ∷ []
   one_more_read word =
@@ -57,7 +57,7 @@ module _ (bytes : List ℕ) (whole : bytes ≡ bytes_of (words_in bytes)) where
   joined_whole more whole_more =
       (λ i. whole i ++ whole_more i) ∙ sym (flat_map-append bytes_of_word (words_in bytes) (words_in more)) ∙ ap bytes_of (sym (joined_read more))
 
--- more steps than a word is great make no difference
+-- further steps than the word requires make no difference
 enough : (n m word : ℕ) → word ≤ n → word ≤ m → digits n word ≡ digits m word
 enough zero zero word few same = refl
 enough zero (suc m) word few same = let small : nat_lt word 128 ≡ true = lt-ltb word 128 (omega arith) in rw small refl
@@ -79,7 +79,7 @@ next_digit (suc word) great =
     cond-false (nat_lt (suc word) 128) _ _ (le-ltb (suc word) 128 great)
     ∙ ap (λ rest. (suc word % 128 + 128) ∷ rest) (enough word (suc word / 128) (suc word / 128) (omega arith) (omega arith))
 
--- how many bytes a word has
+-- the number of bytes of a word
 digits_few : (more k word : ℕ) → word < 128 ^ suc k → length (digits more word) ≤ suc k
 digits_few zero k word small = omega arith
 digits_few (suc more) zero word small = let one : nat_lt word 128 ≡ true = lt-ltb word 128 small in rw one (omega arith)

@@ -43,7 +43,7 @@ digest_more xs w =
 power_more : (xs : List ℕ) (w : ℕ) → power_of xs * BASE % SIZE ≡ power_of (xs ++ w ∷ [])
 power_more xs w = mul-mod_first (BASE ^ length xs) BASE SIZE ∙ ap (λ power. power % SIZE) (sym (powers xs (w ∷ [])))
 
--- what is kept of one more word
+-- what is kept after one more word
 pub kept_more : (bytes : List ℕ) (digest power word : ℕ) → IsKept bytes digest power
     → IsKept (bytes ++ bytes_of_word word) (((digest * BASE % SIZE + word) % SIZE + 1) % SIZE) (power * BASE % SIZE)
 kept_more bytes digest power word kept =
@@ -59,7 +59,7 @@ power_joined : (xs ys : List ℕ) → power_of xs * power_of ys % SIZE ≡ power
 power_joined xs ys =
     sym (mul-mod (BASE ^ length xs) (BASE ^ length ys) SIZE) ∙ ap (λ power. power % SIZE) (sym (powers xs ys))
 
--- what is kept of words with others after them
+-- what is kept of words followed by others
 pub kept_joined : (bytes more : List ℕ) (digest power after following : ℕ) → IsKept bytes digest power → IsKept more after following
     → (joined : ℕ) → joined ≡ digest_of (words_in bytes ++ words_in more) → IsKept (bytes ++ more) joined (power * following % SIZE)
 kept_joined bytes more digest power after following kept others joined joined_is =

@@ -6,13 +6,13 @@ use Rattle.std.proofs.lemmas.List.{drop_more, length-map, drop_all}
 use Rattle.cs_word_lists.specs.Written.{with_word, with_list}
 
 module _ {Item Part : Type 0} (with_part : List ℕ → Part → List ℕ) (part : Item → Part) where
-  -- the elements that are left, once one more is written
+  -- the elements that remain after one more was written
   pub one_more : (words : List ℕ) (items : List Item) (i : ℕ) (d : Item) → i < length items
       → fold with_part (with_part words (part (get_or items i d))) (map part (drop (i + 1) items))
       ≡ fold with_part words (map part (drop i items))
   one_more words items i d more = ap (λ rest. fold with_part words (map part rest)) (sym (drop_more items i d more))
 
-  -- the list, once no element is left
+  -- the whole list, if no element remains
   pub all_written : (words before : List ℕ) (items : List Item) (i : ℕ) → length items ≤ i
       → fold with_part words (map part (drop i items)) ≡ fold with_part before (map part items)
       → with_word words (length items) ≡ with_list with_part before (map part items)
@@ -21,7 +21,7 @@ module _ {Item Part : Type 0} (with_part : List ℕ → Part → List ℕ) (part
       let all = sym none_left ∙ written in
       λ j. with_word (all j) (sym (length-map items part) j)
 
-  -- the same where an iterator gives the elements
+  -- the same with an iterator over the elements
   pub one_more_item : (words : List ℕ) (items rest : List Item) (item : Item) → items ≡ item ∷ rest
       → fold with_part (with_part words (part item)) (map part rest) ≡ fold with_part words (map part items)
   one_more_item words items rest item is = ap (λ left. fold with_part words (map part left)) (sym is)

@@ -13,7 +13,7 @@ use Rattle.cs_inputs.proofs.PathTexts.{without_equals}
 use Rattle.cs_words.specs.Meaning.{AreEntered}
 use Rattle.cs_words.specs.Scan.{IsNoInputAt}
 
--- ---- a text is one input's
+-- ---- a text is that of one input
 named : (text : List ℕ) (path : Path) (number : ℤ) → (h : SpellsInput text path number) → NamesPath text path h.spelling
 named text path number h = record {
   before = path_text path;
@@ -26,7 +26,7 @@ same_input text one other m n r s =
     let names = same_named text one other r.spelling s.spelling (named text one m r) (named text other n s) in
     (names.0, same_value s.spelling m n (subst (λ (t : List ℕ). SpellsNumber t m) names.1 r.spells) s.spells)
 
--- ---- words after words
+-- ---- words after other words
 pub entered_more : (before : List (Path × ℤ)) (words : List (List ℕ)) (middle : List (Path × ℤ)) (word : List ℕ) (path : Path) (number : ℤ)
     → AreEntered before words middle → SpellsInput word path number
     → AreEntered before (words ++ word ∷ []) (insert_entry path_order middle path number)
@@ -40,7 +40,7 @@ pub entered_at : (before : List (Path × ℤ)) (words : List (List ℕ)) (word :
 entered_at before [] word more after h = (h.0, h.1, h.2)
 entered_at before (w ∷ ws) word more after h = entered_at (insert_entry path_order before h.0 h.1) ws word more after h.3
 
--- ---- words are entered in one way
+-- ---- words are entered in only one way
 pub same_entered : (words : List (List ℕ)) (before one other : List (Path × ℤ)) → AreEntered before words one → AreEntered before words other
     → one ≡ other
 same_entered [] before one other h k = h ∙ sym k
@@ -51,7 +51,7 @@ same_entered (w ∷ ws) before one other h k =
     same_entered ws (insert_entry path_order before k.0 k.1) one other (subst (λ (entries : List (Path × ℤ)). AreEntered entries ws one) next h.3) k.3
 
 -- ---- the scan of inputs
--- so far these inputs are entered, and the rest is to come
+-- these inputs are entered so far, and the rest follows
 pub record AreEnteredTo (words : List (List ℕ)) (inputs : List (Path × ℤ)) (rest : List (List ℕ)) : Type 0 where
   pub done : List (List ℕ)
   pub whole : words ≡ done ++ rest

@@ -80,7 +80,7 @@ none_is_unset Entry settings h = ap is_some h
 none_is_unset Format settings h = ap is_some h
 none_is_unset Model settings h = ap is_some h
 
--- a text that is given passes a test
+-- a text that is given passes this test
 abbrev pub PassesIfGiven : (List ℕ → Bool) → Option (List ℕ) → Type 0
 PassesIfGiven test None = Unit {0}
 PassesIfGiven test (Some text) = IsTrue (test text)
@@ -90,7 +90,7 @@ passes : (test : List ℕ → Bool) (reported : Option (List ℕ)) (found : Opti
 passes test None found h = tt
 passes test (Some text) found h = h.2.1
 
--- a text that is given is that of a value of its option
+-- a text that is given is a value of its option
 abbrev pub IsReported : OptionName → Option (List ℕ) → Type 0
 IsReported Visits reported = IsReportedBy IsVisits reported
 IsReported Depth reported = IsReportedBy IsDepth reported
@@ -125,7 +125,7 @@ reported_some Entry text h = h
 reported_some Format text h = h
 reported_some Model text h = h
 
--- ---- the values that are asked for
+-- ---- the requested values
 pub some_budgets : (given : List Given) → ((setting : OptionName) → IsReported setting (text_of setting given))
     → (budgets : RunBudgets) × AreBudgets given budgets
 some_budgets given reported =
@@ -227,7 +227,7 @@ pub model_found : (given : List Given) (settings : Settings) (model : DataModel)
     → model ≡ unwrap_or settings.model Lp64 → IsDataModel given model
 model_found given settings model fields e = unwrapped IsModel Lp64 (text_of Model given) settings.model model (fields Model) e
 
--- the value of a budget's text
+-- the value of a budget, from its text
 pub visits_reported : (given : List Given) (budgets : RunBudgets) (text : List ℕ) → AreBudgets given budgets → text_of Visits given ≡ Some text
     → HasValue Visits text
 visits_reported given budgets text h e = reported_value IsVisits 4 (text_of Visits given) budgets.visits text h.visits e
@@ -289,7 +289,7 @@ entry_reported given entry text h e = entry_value (text_of Entry given) entry te
 pub json_reported : (given : List Given) (json : Bool) (text : List ℕ) → IsJson given json → text_of Format given ≡ Some text → HasValue Format text
 json_reported given json text h e = reported_value IsFormat false (text_of Format given) json text h e
 
--- ---- they are the only ones
+-- ---- there are no others
 one_number : (least greatest : ℕ) (text : List ℕ) (one other : ℕ) → IsNumberIn least greatest text one → IsNumberIn least greatest text other
     → one ≡ other
 one_number least greatest text one other h k = h.value ∙ sym k.value

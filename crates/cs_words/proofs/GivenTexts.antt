@@ -23,7 +23,7 @@ text_append setting (g ∷ gs) later =
 own_text : (g : Given) (later : List Given) → text_of g.setting (g ∷ later) ≡ Some g.text
 own_text g later = ap (λ (b : Bool). if b then Some g.text else text_of g.setting later) (is_same-itself g.setting)
 
--- an option that isn't given before has the text that is given here
+-- an option that wasn't given before has the text given here
 pub text_here : (g : Given) (given later : List Given) → text_of g.setting given ≡ None → text_of g.setting (given ++ g ∷ later) ≡ Some g.text
 text_here g given later none = text_append g.setting given (g ∷ later)
     ∙ ap (λ (t : Option (List ℕ)). first_some t (text_of g.setting (g ∷ later))) none ∙ own_text g later
@@ -37,7 +37,7 @@ given_somewhere g given later none =
     never_none (text_of g.setting given) g.text (ap (first_some (text_of g.setting given)) (sym (own_text g later))
     ∙ sym (text_append g.setting given (g ∷ later)) ∙ none)
 
--- an option that is given before isn't given here
+-- an option that was given before isn't given here
 same_first : (g h : Given) (given later : List Given) (same : Bool) → is_same g.setting h.setting ≡ same
     → text_of h.setting (given ++ g ∷ later) ≡ None → same ≡ false
 same_first g h given later false is none = refl

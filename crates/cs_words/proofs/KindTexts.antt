@@ -10,7 +10,7 @@ use Rattle.cs_results.specs.Selected.{every_kind}
 use Rattle.cs_words.specs.Values.{IsKinds}
 use Rattle.cs_words.specs.Scan.{kind_of, are_kinds}
 
--- the kinds that a text names
+-- the kinds named in a text
 abbrev pub are_kinds_of : List ℕ → List Kind
 are_kinds_of text = filter_map kind_of (slice_split (λ b. b == 44) text)
 

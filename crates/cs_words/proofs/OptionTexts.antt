@@ -115,7 +115,7 @@ pub same_cut_text : (one : OptionName) (name tail : List ℕ) (text : Option (Li
     → setting_text one ++ tail_text text ≡ name ++ tail → (setting_text one ≡ name) × (tail_text text ≡ tail)
 same_cut_text one name tail text none at e = one_cut 61 (setting_text one) name (tail_text text) tail (no_equals one) none (tail_at text) at e
 
--- a word is of one option, and with one value's text or none
+-- a word is that of only one option, with only one value or none
 pub same_option : (one other : OptionName) (text reported : Option (List ℕ)) → option_text one text ≡ option_text other reported
     → (one ≡ other) × (text ≡ reported)
 same_option one other text reported e =
@@ -124,7 +124,7 @@ same_option one other text reported e =
     let cut = same_cut_text one (setting_text other) (tail_text reported) text (no_equals other) (tail_at reported) bodies in
     (same_setting one other cut.0, same_tail text reported cut.1)
 
--- an option's word is no name
+-- an option's word isn't a name
 pub no_name : (setting : OptionName) (text : Option (List ℕ)) → is_name (option_text setting text) ≡ false
 no_name setting None = refl
 no_name setting (Some text) = refl

@@ -19,8 +19,8 @@ use Rattle.cs_words.proofs.FoundFields.{IsReported, not_set, reported_from, repo
 use Rattle.cs_words.proofs.FoundFields.{some_json, some_model, visits_reported, depth_reported, events_reported, analysis_number_reported, kinds_reported}
 use Rattle.cs_words.proofs.FoundFields.{entry_reported, json_reported, model_reported}
 
--- ---- words that go on
--- words after settings that were read go on to a command
+-- ---- words that continue
+-- words after the settings that were read continue to a command
 pub record GoOn (verb : Verb) (given : List Given) (words : List (List ℕ)) (command : Command) : Type 0 where
   pub later : List Given
   pub others : List (List ℕ)
@@ -46,7 +46,7 @@ goes_on verb given done words command spelled m =
           (subst (λ (g : List Given). AskFor m.verb g m.others command) read.1 m.asks);
     }
 
--- where no option's word stands first, what is asked for stands there
+-- if the first word isn't an option's, the command's arguments begin there
 pub asks_here : (verb : Verb) (given : List Given) (words : List (List ℕ)) (command : Command) → BeginWithNoOption words → GoOn verb given words command
     → AskFor verb given words command
 asks_here verb given words command absent on =
@@ -78,7 +78,7 @@ means_with verb given done others command words taken different asks = record {
 nothing : (greatest : ℕ) → 0 ≤ greatest → IsNumberIn 0 greatest (codes "0") 0
 nothing greatest h = record { digits = refl; some = lit< tt; few = lit≤ tt; value = refl; from_least = lit≤ tt; to_greatest = h }
 
--- they go on to some command
+-- they can be continued to a command
 completed : (verb : Verb) (given : List Given) → ((setting : OptionName) → IsReported setting (text_of setting given))
     → (others : List (List ℕ)) × (command : Command) × AskFor verb given others command
 completed verbs.Analyze given reported =
@@ -131,7 +131,7 @@ spelled_more verb g given done words s taken none value begins = record {
   reported = λ setting. reported_more g given none value s.reported setting (is_same setting g.setting) refl;
 }
 
--- ---- the same of what the scan has found
+-- ---- the same for the result of the scan
 pub spelled_by : (verb : Verb) (words : List (List ℕ)) (settings : Settings) (rest : List (List ℕ)) → (read : AreReadTo verb words settings rest)
     → AreSpelled verb read.given read.done
 spelled_by verb words settings rest read = record {
@@ -167,7 +167,7 @@ read_more verb g words before after rest own left read whole begins taken unset 
       fields = λ setting. fields_more g read.given before after none set read.fields setting (is_same setting g.setting) refl;
     }
 
--- ---- an option's word that goes on
+-- ---- an option's word that can be continued
 asked_value : (verb : Verb) (setting : OptionName) (given : List Given) (others : List (List ℕ)) (command : Command) (text : List ℕ)
     → AskFor verb given others command → takes verb setting ≡ true → text_of setting given ≡ Some text → HasValue setting text
 asked_value verbs.Analyze Visits given others (Analyze words) text asks taken e = analysis_number_reported given words.budgets Visits text asks.budgets tt e
@@ -197,7 +197,7 @@ asked_value verbs.Replay setting given others (Flow words) text asks taken e = a
 asked_value verbs.Replay setting given others (Generate words) text asks taken e = absurd asks
 asked_value verbs.Generate setting given others command text asks taken e = absurd (cc)
 
--- what is known of an option whose word goes on to a command
+-- what holds for an option whose word can be continued to a command
 pub record IsGoodOption (verb : Verb) (given : List Given) (setting : OptionName) (reported : Option (List ℕ)) (following : List (List ℕ)) : Type 0 where
   pub text : List ℕ
   pub taken : takes verb setting ≡ true

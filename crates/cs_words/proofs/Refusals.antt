@@ -15,14 +15,14 @@ use Rattle.cs_words.proofs.FoundFields.{none_is_unset, not_set}
 use Rattle.cs_words.proofs.ReadSettings.{GoOn, goes_on, asks_here, AreSpelled, means_with, begins, spelled_by, spelled_more, read_more, IsGoodOption}
 use Rattle.cs_words.proofs.ReadSettings.{good_option}
 
--- ---- words and fewer of them
+-- ---- words and the first of them
 pub shorter : (words more : List (List ℕ)) → BeginsACommand (words ++ more) → BeginsACommand words
 shorter words more h = (more ++ h.0, h.1, subst (λ (w : List (List ℕ)). WordsMean w h.1) (append_assoc words more h.0) h.2)
 
 begins_itself : (words : List (List ℕ)) (command : Command) → WordsMean words command → BeginsACommand words
 begins_itself words command m = ([], command, subst (λ (w : List (List ℕ)). WordsMean w command) (sym (append-nil words)) m)
 
--- a word that is refused ends each command that the words before it begin
+-- a refused word doesn't continue the words before it to a command
 ends_there : (before following : List (List ℕ)) → EndBefore before following → (word : List ℕ) (more : List (List ℕ)) → following ≡ word ∷ more
     → BeginsACommand (before ++ word ∷ []) → ⊥
 ends_there before [] end word more e h = absurd (cc)
@@ -36,7 +36,7 @@ none_meant before (w ∷ ws) end command m =
 pub not_meant : (words : List (List ℕ)) (number : ℕ) → AreRefusedAt words number → (command : Command) → WordsMean words command → ⊥
 not_meant words number r command m = none_meant r.before r.following r.end command (subst (λ (w : List (List ℕ)). WordsMean w command) r.whole m)
 
--- of two fronts of the same words one goes on to the other
+-- one of two beginnings of the same words continues the other
 one_front : (a c b d : List (List ℕ)) → a ++ b ≡ c ++ d
     → (a ≡ c) ⊎ (((word : List ℕ) × (more : List (List ℕ)) × (others : List (List ℕ)) × (b ≡ word ∷ others) × (c ≡ a ++ word ∷ more))
     ⊎ ((word : List ℕ) × (more : List (List ℕ)) × (others : List (List ℕ)) × (d ≡ word ∷ others) × (a ≡ c ++ word ∷ more)))
@@ -60,7 +60,7 @@ past_end before following more word others front end e longer h =
     ends_there before following end word others e
     (shorter (before ++ word ∷ []) more (subst BeginsACommand (longer ∙ sym (append_assoc before (word ∷ []) more)) h))
 
--- one word is refused
+-- only one word is refused
 pub one_refusal : (words : List (List ℕ)) (m n : ℕ) → AreRefusedAt words m → AreRefusedAt words n → m ≡ n
 one_refusal words m n r s =
     elim (one_front r.before s.before r.following s.following (sym r.whole ∙ s.whole)) [
@@ -71,7 +71,7 @@ one_refusal words m n r s =
       ]
     ]
 
--- ---- the refusal of a word by what is left
+-- ---- the refusal of a word, by the words that remain
 pub refused_so : (words before following : List (List ℕ)) (number : ℕ) → words ≡ before ++ following → number + length following ≡ length words + 1
     → BeginsACommand before → EndBefore before following → AreRefusedAt words number
 refused_so words before following number whole counts begin end = record {
@@ -83,7 +83,7 @@ refused_so words before following number whole counts begin end = record {
   end = end;
 }
 
--- a word after settings that were read is refused where none goes on with it
+-- a word after the settings that were read is refused if it can't be continued
 pub no_word : (verb : Verb) (given : List Given) (done : List (List ℕ)) (word : List ℕ) → BeginWithSettings given [] done
     → ((more : List (List ℕ)) (command : Command) → GoOn verb given (word ∷ more) command → ⊥)
     → BeginsACommand ((verb_text verb ∷ done) ++ word ∷ []) → ⊥
@@ -99,7 +99,7 @@ refused_first verb words settings rest number word following read is counts none
     ∙ ap (λ (w : List (List ℕ)). (verb_text verb ∷ read.done) ++ w) is) (ap (λ (w : List (List ℕ)). number + length w) (sym is) ∙ counts)
     (begins verb read.given read.done (spelled_by verb words settings rest read)) (no_word verb read.given read.done word read.spelled none)
 
--- the same where words are missing
+-- the same if words are missing
 pub refused_end : (verb : Verb) (words : List (List ℕ)) (settings : Settings) (rest : List (List ℕ)) (number : ℕ)
     → (read : AreReadTo verb words settings rest) → rest ≡ [] → number + length rest ≡ length words + 1
     → ((command : Command) → GoOn verb read.given [] command → ⊥) → AreRefusedAt words number
@@ -111,7 +111,7 @@ refused_end verb words settings rest number read is counts none =
     (subst (λ (w : List (List ℕ)). WordsMean w command) (sym (append-nil (verb_text verb ∷ read.done))) m)))
 
 -- ---- an option's word
--- an option that the command doesn't have, or that is given before
+-- an option that the command doesn't have, or that was given before
 pub unfit : (verb : Verb) (words : List (List ℕ)) (settings : Settings) (rest others : List (List ℕ)) (number : ℕ) (option : OptionWord)
     → AreReadTo verb words settings rest → IsFirstOption option others rest → number + length rest ≡ length words + 1
     → (takes verb (setting_in option) ≡ false) ⊎ (is_set (setting_in option) settings ≡ true) → AreRefusedAt words number
@@ -128,7 +128,7 @@ unfit verb words settings rest others number option read first counts fault =
         (subst (λ (o : Option (List ℕ)). IsSetTo (setting_in option) o settings) good.new (read.fields (setting_in option))) in
         absurd (cc)
 
--- no value after the `=`
+-- the text after the `=` isn't a value
 pub bad_joined : (verb : Verb) (words : List (List ℕ)) (settings : Settings) (rest others : List (List ℕ)) (number : ℕ) (option : OptionWord)
     (text : List ℕ) → AreReadTo verb words settings rest → IsFirstOption option others rest → number + length rest ≡ length words + 1
     → text_in option ≡ Some text → (HasValue (setting_in option) text → ⊥) → AreRefusedAt words number
@@ -144,7 +144,7 @@ bad_joined verb words settings rest others number option text read first counts 
     absent : {more : List (List ℕ)} → IsGoodOption verb read.given (setting_in option) (text_in option) more → ⊥
     absent {more} good = at good.text more good.value good.place
 
--- some value of each option
+-- a value of each option
 sample : (setting : OptionName) → (text : List ℕ) × HasValue setting text
 sample Visits = (codes "1", (1, record { digits = refl; some = lit< tt; few = lit≤ tt; value = refl; from_least = lit≤ tt; to_greatest = lit≤ tt }))
 sample Depth = (codes "1", (1, record { digits = refl; some = lit< tt; few = lit≤ tt; value = refl; from_least = lit≤ tt; to_greatest = lit≤ tt }))
@@ -171,7 +171,7 @@ begins_alone verb words settings rest others option read first is taken unset =
     (subst BeginsACommand (sym (append_assoc (verb_text verb ∷ read.done) (first.word ∷ []) (value.0 ∷ [])))
     (begins verb (read.given ++ record { setting = setting; text = value.0 } ∷ []) (read.done ++ first.word ∷ value.0 ∷ []) more))
 
--- what stands after an option's word that is no value, or is missing
+-- the word after an option's isn't a value, or is missing
 pub bad_after : (verb : Verb) (words : List (List ℕ)) (settings : Settings) (rest others : List (List ℕ)) (number : ℕ) (option : OptionWord)
     → AreReadTo verb words settings rest → IsFirstOption option others rest → number + length others ≡ length words + 1 → text_in option ≡ None
     → takes verb (setting_in option) ≡ true → is_set (setting_in option) settings ≡ false
@@ -223,7 +223,7 @@ after_read verb words before after rest others left option text read first is fo
     (inl (ap (λ (w : List ℕ). w ∷ text ∷ []) (first.names ∙ ap (option_text (setting_in option)) is))) taken unset set
 
 -- ---- words after the settings
--- no option's word stands first, where there is a word at all
+-- the first word, if there is one, isn't an option's
 abbrev pub IsNoOptionFirst : List (List ℕ) → List (List ℕ) → Type 0
 IsNoOptionFirst front following = BeginWithNoOption (front ++ following)
 
@@ -232,7 +232,7 @@ same_front : (front : List (List ℕ)) (word : List ℕ) (others more : List (Li
 same_front [] word others more absent = absent
 same_front (first ∷ front) word others more absent = absent
 
--- some words after the settings begin what a command asks for
+-- some words after the settings are the beginning of the command's arguments
 pub asks_from : (verb : Verb) (given : List Given) (done front more : List (List ℕ)) (command : Command) → AreSpelled verb given done
     → AskFor verb given (front ++ more) command → BeginsACommand ((verb_text verb ∷ done) ++ front)
 asks_from verb given done front more command s asks = (
@@ -242,7 +242,7 @@ asks_from verb given done front more command s asks = (
       (means_with verb given done (front ++ more) command s.words s.taken s.different asks),
 )
 
--- some words after the settings begin what a command asks for, and with the next word, or without one, they don't
+-- some words after the settings are the beginning of arguments, and with the next word, or at the end, they aren't
 pub refused_inside : (verb : Verb) (words : List (List ℕ)) (settings : Settings) (rest : List (List ℕ)) (number : ℕ) (front following : List (List ℕ))
     → (whole : AreReadWhole verb words settings rest) → rest ≡ front ++ following → number + length following ≡ length words + 1
     → BeginsACommand ((verb_text verb ∷ whole.read.done) ++ front) → IsNoOptionFirst front following

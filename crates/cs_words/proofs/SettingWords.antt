@@ -17,7 +17,7 @@ heads x y xs ys e = (cc, cc)
 same_given : (g h : Given) → g.setting ≡ h.setting → g.text ≡ h.text → g ≡ h
 same_given g h settings texts = λ i. record { setting = settings i; text = texts i }
 
--- words begin with one setting
+-- words begin with only one setting
 one_setting : (g h : Given) (b c words : List (List ℕ)) → BeginWithSetting g b words → BeginWithSetting h c words → (g ≡ h) × (b ≡ c)
 one_setting g h b c words (inl e) (inl d) =
     let first = heads (option_text g.setting None) (option_text h.setting None) (g.text ∷ b) (h.text ∷ c) (sym e ∙ d) in
@@ -51,7 +51,7 @@ pub followed : (given : List Given) (done others : List (List ℕ)) → BeginWit
 followed [] done others h = ap (λ (d : List (List ℕ)). d ++ others) h
 followed (g ∷ gs) done others h = (h.0 ++ others, longer g h.0 done others h.1, followed gs h.0 others h.2)
 
--- settings are cut off the words after them
+-- settings are separated from the words after them
 pub cut_off : (given : List Given) (others words : List (List ℕ)) → BeginWithSettings given others words
     → (done : List (List ℕ)) × (words ≡ done ++ others) × BeginWithSettings given [] done
 cut_off [] others words h = ([], h, refl)
@@ -68,14 +68,14 @@ cut_off (g ∷ gs) others words h =
     shortened g following words (inr e) done others is =
         (option_text g.setting (Some g.text) ∷ done, e ∙ ap (λ (w : List (List ℕ)). option_text g.setting (Some g.text) ∷ w) is, inr refl)
 
--- ---- where settings end
+-- ---- the end of settings
 pub no_setting : (g : Given) (b words : List (List ℕ)) → BeginWithNoOption words → BeginWithSetting g b words → ⊥
 no_setting g b [] absent (inl e) = absurd (cc)
 no_setting g b [] absent (inr e) = absurd (cc)
 no_setting g b (word ∷ words) absent (inl e) = absent g.setting None (heads word (option_text g.setting None) words (g.text ∷ b) e).0
 no_setting g b (word ∷ words) absent (inr e) = absent g.setting (Some g.text) (heads word (option_text g.setting (Some g.text)) words b e).0
 
--- what stands after the settings begins with no option's word
+-- words that begin with a name don't begin with an option's word
 named_first : (entry : List ℕ) (numbers others : List (List ℕ)) → is_name entry ≡ true → others ≡ entry ∷ numbers → BeginWithNoOption others
 named_first entry numbers [] named e = tt
 named_first entry numbers (word ∷ words) named e = λ setting text is.
@@ -83,7 +83,7 @@ named_first entry numbers (word ∷ words) named e = λ setting text is.
     let absent : is_name entry ≡ false = ap is_name (sym first ∙ is) ∙ no_name setting text in
     (let both : true ≡ false = sym named ∙ absent in absurd (cc))
 
--- digits begin with no option's dashes
+-- digits don't begin with an option's dashes
 dashes : (setting : OptionName) (text : Option (List ℕ)) → list_all is_digit (option_text setting text) ≡ false
 dashes setting None = refl
 dashes setting (Some text) = refl
@@ -119,7 +119,7 @@ asks_no_option verbs.Generate given others (Flow words) asks = absurd asks
 asks_no_option verbs.Generate given others (Replay words) asks = absurd asks
 asks_no_option verbs.Generate given others (Generate words) asks = digits_first asks.seed (asks.size ∷ []) others asks.is_seed.digits asks.whole
 
--- ---- settings that were read are the first of all
+-- ---- settings that were read come first
 pub after_read : (given all : List Given) (done others t : List (List ℕ)) → BeginWithNoOption others → BeginWithSettings given [] done
     → BeginWithSettings all others (done ++ t) → (later : List Given) × (all ≡ given ++ later) × BeginWithSettings later others t
 after_read [] all done others t absent h k = (all, refl, subst (λ (d : List (List ℕ)). BeginWithSettings all others (d ++ t)) h k)
@@ -130,7 +130,7 @@ after_read (g ∷ gs) (a ∷ more) done others t absent h k =
     let rest = after_read gs more h.0 others t absent h.2 (subst (λ (w : List (List ℕ)). BeginWithSettings more others w) same.1 k.2) in
     (rest.0, (λ i. same.0 i ∷ rest.1 i), rest.2)
 
--- before words that begin with no option's there are no settings
+-- words that don't begin with an option's word have no settings
 pub none_left : (later : List Given) (others words : List (List ℕ)) → BeginWithNoOption words → BeginWithSettings later others words
     → (later ≡ []) × (words ≡ others)
 none_left [] others words absent h = (refl, h)

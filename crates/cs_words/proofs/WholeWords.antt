@@ -51,7 +51,7 @@ refuses words (Ok found) h number r = absurd (not_meant words number r found h.0
 refuses words (Err (Words other)) h number r = inl (ap (λ (n : ℕ). Err (Words n)) (one_refusal words other number h r))
 refuses words (Err Memory) h number r = inr refl
 
--- ---- what is meant where all settings are read
+-- ---- the meaning, if all settings were read
 pub all_asked : (verb : Verb) (words : List (List ℕ)) (settings : Settings) (rest : List (List ℕ)) → (whole : AreReadWhole verb words settings rest)
     → (command : Command) → WordsMean words command → AskFor verb whole.read.given rest command
 all_asked verb words settings rest whole command m =
@@ -88,7 +88,7 @@ only_flow given rest words model (Flow other) asks =
 only_flow given rest words model (Replay other) asks = absurd asks
 only_flow given rest words model (Generate other) asks = absurd asks
 
--- the budgets that the fields give, with their defaults
+-- the budgets of the fields, with their defaults
 pub record IsReadBudgets (settings : Settings) (budgets : Budgets) : Type 0 where
   pub visits : budgets.visits ≡ unwrap_or settings.visits 4
   pub depth : budgets.depth ≡ unwrap_or settings.depth 5
@@ -123,7 +123,7 @@ flow_right words settings rest found whole none is =
       λ other m. only_flow whole.read.given rest found model other (all_asked verbs.Flow words settings rest whole other m),
     )
 
--- a command that asks for nothing after its settings
+-- a command without arguments after its settings
 abbrev pub AsksForNoMore : Verb → Type 0
 AsksForNoMore verb = (given : List Given) (word : List ℕ) (more : List (List ℕ)) (command : Command) → AskFor verb given (word ∷ more) command → ⊥
 
@@ -179,7 +179,7 @@ bad_entry words settings rest number word following whole is absent counts =
     refused_first verbs.Replay words settings rest number word following whole.read is counts
     (λ more command on. entry_asked whole.read.given word more command absent (asks_here verbs.Replay whole.read.given (word ∷ more) command first on))
 
--- a run that the words read so far ask for, whatever its inputs
+-- a run that the words read so far describe, whatever its inputs
 replay_of : (given : List Given) (settings : Settings) (rest : List (List ℕ)) (found : ReplayWords) (numbers : List (List ℕ))
     → AreBudgets given found.budgets → IsDataModel given found.model → rest ≡ found.entry ∷ numbers → is_name found.entry ≡ true
     → AreEntered [] numbers found.inputs → IsReplay given rest found
@@ -298,7 +298,7 @@ generate_right words settings rest found whole asks = (
   λ other m. only_generation whole.read.given rest found asks other (all_asked verbs.Generate words settings rest whole other m),
 )
 
--- what `generate` asks for, part by part
+-- the arguments of `generate`, one by one
 generation_whole : (given : List Given) (rest : List (List ℕ)) (command : Command) → AskFor verbs.Generate given rest command
     → (seed size : List ℕ) × (a b : ℕ) × (rest ≡ seed ∷ size ∷ []) × IsSeed seed a × IsSize size b
 generation_whole given rest (Analyze words) asks = absurd asks
@@ -312,7 +312,7 @@ nothing greatest h = record { digits = refl; some = lit< tt; few = lit≤ tt; va
 some_generation : (seed size : List ℕ) (a b : ℕ) → IsSeed seed a → IsSize size b → IsGeneration (seed ∷ size ∷ []) (record { seed = a; size = b })
 some_generation seed size a b is_seed is_size = record { seed = seed; size = size; whole = refl; is_seed = is_seed; is_size = is_size }
 
--- no seed
+-- not a seed
 pub bad_seed : (words : List (List ℕ)) (settings : Settings) (rest : List (List ℕ)) (number : ℕ) (word : List ℕ) (others : List (List ℕ))
     → AreReadWhole verbs.Generate words settings rest → rest ≡ word ∷ others → ((n : ℕ) → IsSeed word n → ⊥)
     → number + length rest ≡ length words + 1 → AreRefusedAt words number
@@ -331,7 +331,7 @@ no_seed words settings rest number whole none counts =
     let parts = generation_whole whole.read.given [] command (asks_here verbs.Generate whole.read.given [] command tt on) in
     let e = parts.4 in absurd (cc))
 
--- a seed, and no size
+-- a seed, but not a size
 pub bad_size : (words : List (List ℕ)) (settings : Settings) (rest : List (List ℕ)) (number : ℕ) (seed : List ℕ) (a : ℕ) (following : List (List ℕ))
     → AreReadWhole verbs.Generate words settings rest → rest ≡ seed ∷ following → IsSeed seed a
     → ((word : List ℕ) (others : List (List ℕ)) (n : ℕ) → following ≡ word ∷ others → IsSize word n → ⊥)
@@ -365,7 +365,7 @@ third_word words settings rest number seed size a b following whole is is_seed i
     let parts = generation_whole whole.read.given (seed ∷ size ∷ word ∷ more) command asks in
     let e = parts.4 in absurd (cc))
 
--- ---- words mean one command
+-- ---- words mean only one command
 only_asked : (verb : Verb) (given : List Given) (rest : List (List ℕ)) (one other : Command) → AskFor verb given rest one → AskFor verb given rest other
     → other ≡ one
 only_asked verbs.Analyze given rest (Analyze found) other one asks = only_analyze given rest found one other asks

@@ -44,14 +44,14 @@ no_text (word ∷ words) none = absurd (omega arith)
 some_text : (words : List Word) → 0 < length words → 0 < length (words_text words)
 some_text words some = omega (arith, words_length words)
 
--- what is left after the settings is a part of all words
+-- the words that remain after the settings are some of all words
 pub rest_within : (verb : Verb) (words rest : List Word) (settings : Settings) → AreReadWhole verb (words_text words) settings (words_text rest)
     → length rest ≤ length words
 rest_within verb words rest settings whole =
     let parts = ap length whole.read.whole ∙ length-append (verb_text verb ∷ whole.read.done) (words_text rest) in
     omega (arith, parts, words_length words, words_length rest)
 
--- a refusal by what is left
+-- a refusal, by the words that remain
 refusal_before : (words rest : List Word) (refusal : WordsRefusal) → IsRefusalBefore (length words) (length rest) refusal
     → ((number : ℕ) → number + length (words_text rest) ≡ length (words_text words) + 1 → AreRefusedAt (words_text words) number)
     → IsRefusal (words_text words) refusal
@@ -142,7 +142,7 @@ nothing_after verb words rest others settings option refusal read first is none 
     bad_after verb (words_text words) settings (words_text rest) (words_text others) number option read first c is taken unset
     (λ reported more e value. absurd (let no_more = no_text others none in cc)))
 
--- ---- what stands after the settings
+-- ---- the words after the settings
 pub extra_word : (verb : Verb) → AsksForNoMore verb → (words rest : List Word) (settings : Settings) (refusal : WordsRefusal)
     → AreReadWhole verb (words_text words) settings (words_text rest) → 0 < length rest → IsRefusalBefore (length words) (length rest) refusal
     → IsRefusal (words_text words) refusal

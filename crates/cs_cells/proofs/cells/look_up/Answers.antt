@@ -6,7 +6,7 @@ returns-in-Here-clause-local c = λ names frame count extends local unfilled.
     let here = c.in_ok-found.ensures names frame count extends local unfilled in
     (cc, refl)
 
--- nothing else is found in a local
+-- a local doesn't have static values
 pub returns-in_ok-static_value-in-First-clause-local : goal.returns-in_ok-static_value-in-First-clause-local
 returns-in_ok-static_value-in-First-clause-local c = λ names frame count extends local unfilled.
     let here = c.in_ok-found.ensures names frame count extends local unfilled in

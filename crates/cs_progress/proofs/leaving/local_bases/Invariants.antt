@@ -1,4 +1,4 @@
--- The numbers found so far are those of the locals before the declaration, and all numbers name what they named.
+-- The numbers found so far are those of the locals before the declaration, and all numbers keep their names.
 use Rattle.cs_state.specs.Naming.{naming, Extends}
 use Rattle.cs_progress.specs.Leaving.{AreLocals}
 use Rattle.cs_progress.proofs.leaving.local_bases.Given as goal

@@ -2,7 +2,7 @@ use Rattle.std.proofs.Common.{◌≡◌, ℕ, List, [], ◌++◌, ◌∙◌, app
 use Rattle.cs_report.proofs.LineTexts.{summary_pieces}
 use Rattle.cs_report.proofs.counts.summary.Goals as goal
 
--- six pieces that were printed one after another onto nothing
+-- six pieces that were printed one after the other
 six_pieces : (none first second third fourth fifth sixth a b c d e f : List ℕ) → none ≡ [] → first ≡ none ++ a → second ≡ first ++ b
     → third ≡ second ++ c → fourth ≡ third ++ d → fifth ≡ fourth ++ e → sixth ≡ fifth ++ f → sixth ≡ a ++ (b ++ (c ++ (d ++ (e ++ f))))
 six_pieces none first second third fourth fifth sixth a b c d e f is one two three four five six =

@@ -1,4 +1,4 @@
--- The number leads where it leads among the cases that are left.
+-- The block for the number is its block among the remaining cases.
 use Rattle.std.proofs.Common.{◌≡◌, drop, map}
 use Rattle.cs_terms.specs.Term.{Valuation, value_of}
 use Rattle.cs_constraints.specs.Constraints.{Fits}

@@ -8,7 +8,7 @@ use Rattle.cs_terms.proofs.Cofactors.{div_euclid-floor, high_cofactor, low_cofac
 use Rattle.cs_terms.proofs.Narrow.{narrow_same, narrow_neg}
 use Rattle.cs_terms.proofs.near.positive_cofactors.Goals as goal
 
--- what both divisions give
+-- the results of both divisions
 record Divided (c : goal.After-div_euclid-2) (n : ℕ) : Type 0 where
   pub factor : c.args.factor ≡ pos n
   pub positive : 0 < n

@@ -1,4 +1,4 @@
--- So far there is a child for each piece that was gone through, in order.
+-- So far there is a child for each piece before the index, in order.
 use Rattle.std.proofs.Common.{◌≡◌, List, [], ◌++◌, length}
 use Rattle.std.specs.Vec.Iter.{into_iter_items, into_iter_len}
 use Rattle.cs_eval.specs.declared.piece.Piece.{Piece}

@@ -1,4 +1,4 @@
--- So far there is an end for each faulty part that was gone through, in order.
+-- So far there is an end for each faulty part before the index, in order.
 use Rattle.std.proofs.Common.{◌≡◌, List, [], ◌++◌, length}
 use Rattle.std.specs.Vec.Iter.{into_iter_items, into_iter_len}
 use Rattle.cs_access.specs.declared.checking.FaultyPart.{FaultyPart}

@@ -28,7 +28,7 @@ both_ok : {X Y P Q R : Type 0} (r : Result X Y) → (P → Q → R) → OnOk r P
 both_ok (Ok x) f p q = f p q
 both_ok (Err e) f p q = tt
 
--- what stands first where the operation isn't done, and where it is
+-- what comes first if the operation isn't done, and if it is
 came_eq : (done : Bool) (first what : Next) → done ≡ false → what ≡ first → came_to done first ≡ what
 came_eq done first what waits is = ap (λ (b : Bool). came_to b first) waits ∙ sym is
 
@@ -39,7 +39,7 @@ ok_given : {X Y P : Type 0} (r : Result X Y) → P → OnOk r P
 ok_given (Ok x) p = p
 ok_given (Err e) p = tt
 
--- what was found before a step, and the step
+-- the successors found before a step, and the step
 module _ (exploration : Exploration) (given later : Naming) (more : Extends given later) (before state : State) (found : Children)
     (so_far : FindsSoFar exploration given before state found) (apart : OutcomesDiffer found.ends.items)
     (old new : State) (what : Next)

@@ -1,4 +1,4 @@
--- So far the runs of the state have come to the one that is left, or to an end.
+-- So far the runs of the state have reached the state that remains, or an end.
 use Rattle.std.proofs.Common.{◌≡◌, map}
 use Rattle.cs_operators.specs.Asking.{HasEveryKind}
 use Rattle.cs_state.specs.Naming.{naming, Extends}

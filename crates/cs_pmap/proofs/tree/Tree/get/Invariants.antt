@@ -3,7 +3,7 @@ use Rattle.std.specs.FinMap.{find}
 use Rattle.cs_pmap.specs.Keys.{key_cmp}
 use Rattle.cs_pmap.proofs.tree.Tree.get.Given as goal
 
--- the key has in the tree at hand what it has in the whole
+-- a look-up of the key in this tree finds the same as in the whole tree
 abbrev pub invariant-loop-branch : goal.invariant-loop-branch
 invariant-loop-branch g l = find key_cmp l.key l.tree.0 ≡ find key_cmp l.key l.initial.tree.0
 

@@ -36,7 +36,7 @@ partitioned x s fits h = λ i j d le lt t.
     ends_below-is x s i d fits h (omega arith)
     ∙ int_lt-mono _ _ x (IsSpreadFrom-rises _ s i j d h le lt) (sym (ends_below-is x s j d fits h lt) ∙ t)
 
--- what the search found
+-- the result of the search
 found_at : (x : ℤ) (s : List Interval) (k : ℕ) (d : Interval) → FitsSigned w128 x → IsSpread s
     → IsPartitionPoint (λ i. ends_below x i ≡ true) (λ i. ends_below x i ≡ false) s k → k < length s → contains s x ≡ int_le (get_or s k d).low x
 found_at x s k d fits h point lt =

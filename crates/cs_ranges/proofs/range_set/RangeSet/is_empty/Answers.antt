@@ -6,7 +6,7 @@ use Rattle.cs_ranges.specs.RangeSet.{IsEmpty, IsInhabited, IsSpread}
 use Rattle.cs_ranges.proofs.Members.{contains-nil, contains-cons, in_interval-low}
 use Rattle.cs_ranges.proofs.range_set.RangeSet.is_empty.Goals as goal
 
--- a set with no interval is empty, and the first number of the first interval is one of the set
+-- a set without intervals is empty, and otherwise the first number of the first interval is in it
 empty_cases : (s : List Interval) (b : Bool) → IsSpread s → b ≡ (length s == 0) → MatchBool b (IsEmpty s) (IsInhabited s)
 empty_cases [] b h e = rw e contains-nil
 empty_cases (i ∷ s) b h e =

@@ -11,7 +11,7 @@ use Rattle.cs_ranges.proofs.Spread.{IsSpreadFrom-at}
 use Rattle.cs_ranges.proofs.range_set.RangeSet.least_abs.Goals.{in-None, in-Some}
 use Rattle.cs_ranges.proofs.range_set.RangeSet.least_abs.Goals as goal
 
--- what the loop found after all intervals
+-- the result of the loop after all intervals
 found_all : (s t : List Interval) (k : ℕ) (found : Option ℤ) → length s ≤ k → k ≤ length s → s ≡ t
     → MatchOption found (k ≡ 0) (IsLeastAbs (take k s)) → MatchOption found (IsEmpty t) (IsLeastAbs t)
 found_all s t k None le ge e h = λ x. ap (λ l. contains l x) (sym e ∙ nil_from_length s (omega arith)) ∙ contains-nil x

@@ -16,7 +16,7 @@ use Rattle.cs_ranges.proofs.range_set.RangeSet.push.Goals as goal
 abbrev zero : Interval
 zero = record { low = pos 0; high = pos 0 }
 
--- the last interval of a list of so many
+-- the last interval of a list of this length
 abbrev last_of : List Interval → ℕ → Interval
 last_of s n = get_or s (n - 1) zero
 
@@ -25,7 +25,7 @@ split_last s n len some =
     front_last s n (last_of s n) len some (get_or_default s (n - 1) zero (last_of s n) (omega arith))
     ∙ ap (λ k. take (k - 1) s ++ last_of s n ∷ []) len
 
--- what is known of the last interval
+-- the last interval has a number, and is inside the bounds
 last_is : (s : List Interval) (n : ℕ) → n ≡ length s → 0 < n → IsSpread s → IsProper (last_of s n)
 last_is s n len some h =
     let at = IsSpreadFrom-at _ s (n - 1) zero h (omega arith) in
@@ -47,7 +47,7 @@ record Touches (s : List Interval) (n : ℕ) (i : Interval) : Type 0 where
   following : last_low s ≤ℤ i.low
   touching : i.low ≤ℤ ((last_of s n).high +ℤ pos 1)
 
--- the list with the hull of both in place of the last one
+-- the list with the hull of both as its last interval
 record IsJoined (s : List Interval) (n : ℕ) (i j : Interval) (new : List Interval) : Type 0 where
   low : j.low ≡ (last_of s n).low
   high : j.high ≡ int_max (last_of s n).high i.high

@@ -7,7 +7,7 @@ use Rattle.cs_ranges.specs.RangeSet.{contains}
 use Rattle.cs_ranges.proofs.Members.{in_interval_yields, or-false}
 use Rattle.cs_ranges.proofs.range_set.RangeSet.push_common.Goals as goal
 
--- what two intervals have both
+-- the numbers that two intervals have in common
 common : (a b i : Interval) (x : ℤ) → i.low ≡ int_max a.low b.low → i.high ≡ int_min a.high b.high
     → in_interval i x ≡ (in_interval a x && in_interval b x)
 common a b i x e f =

@@ -14,7 +14,7 @@ use Rattle.cs_ranges.proofs.range_set.affine.affine_preimage.Goals.{in_default-v
 use Rattle.cs_ranges.proofs.range_set.affine.affine_preimage.Goals.{then-slope-lt0+in_ok-found, else-slope-lt0+in_ok-found-2}
 use Rattle.cs_ranges.proofs.range_set.affine.affine_preimage.Goals as goal
 
--- what the line answers, cut down to the numbers asked for, over each of which it is
+-- the preimage under the line, cut down to the requested numbers, over each of which the line is
 cut : (found over asked value : Bool) → found ≡ (over && value) → (asked ≡ true → over ≡ true) → (found && asked) ≡ (asked && value)
 cut true true true value e h = e
 cut false true true value e h = e
@@ -22,7 +22,7 @@ cut true over false value e h = refl
 cut false over false value e h = refl
 cut found false true value e h = absurd (false≢true (h refl))
 
--- the line is over each number asked for
+-- the line is over each requested number
 is_over-asked : (line : Line) (asked : List Interval) (first last s : ℤ) → (line.first ≡ first) × (line.last ≡ last) → IsLeast asked first
     → IsGreatest asked last → contains asked s ≡ true → is_over line s ≡ true
 is_over-asked line asked first last s e least greatest t =

@@ -5,7 +5,7 @@ use Rattle.std.proofs.lemmas.Int.{ints, to_z-of_z, int_wrap_fits, wrapping_add-b
 use Rattle.cs_ranges.specs.Affine.{affine}
 use Rattle.cs_ranges.proofs.range_set.affine.affine_value.Goals as goal
 
--- the bits of the product of a number and of bits that stand for a wrapped one
+-- the bits of the product of a number and of bits that represent a wrapped number
 wrapped_product : (a b : ℤ) (n : ℕ) → FitsSigned w128 a → n < 2 ^ 128 → to_z w128 n ≡ int_wrap w128 b
     → to_z w128 ((of_z w128 a * n) % 2 ^ 128) ≡ int_wrap w128 (a *ℤ b)
 wrapped_product a b n fits lt e =
